@@ -1,0 +1,10 @@
+// Texts, lists, and the element tree of a model file.
+#![tactic(auto)]
+
+mod text;
+mod tree;
+
+pub use sqlite_items::Items;
+pub use std::alloc::AllocError as OutOfMemory;
+pub use text::Text;
+pub use tree::{Attribute, Document, Element};
