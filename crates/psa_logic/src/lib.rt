@@ -1,0 +1,3 @@
+//! Definitions that the model and the node table share: sets of ranks, minimal cut sets, prime
+//! implicants and the order of a report. Their laws are the contracts of functions with empty bodies.
+#![tactic(auto)]
