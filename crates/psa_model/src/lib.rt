@@ -29,9 +29,9 @@ pub use ids::{
 };
 pub use model::{
     BasicEvent, EventTree, Factor, FaultTree, Functional, Gate, Group, GroupModel, House,
-    Initiating, Model, NamedBranch, Parameter, RuleDefinition, Sequence, Valued,
+    Initiating, MAX_DEPTH, Model, NamedBranch, Parameter, RuleDefinition, Sequence, Valued,
 };
-pub use product::{Literal, Product};
+pub use product::{Literal, MAX_ORDER, Product};
 pub use settings::{Algorithm, Input, Mode, Settings};
 pub use targets::{Path, PathStep, Ranks, Target, Targets, Values};
 pub use walks::{Branch, BranchEnd, ForkPath, Instruction};
