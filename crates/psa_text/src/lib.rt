@@ -1,7 +1,9 @@
 // Texts, lists, and the element tree of a model file.
 #![tactic(auto)]
 
+mod builder;
 mod text;
+mod token;
 mod tree;
 
 pub use sqlite_items::Items;
