@@ -2,10 +2,14 @@
 #![tactic(auto)]
 
 mod builder;
+mod bytes;
+mod document;
+mod reader;
 mod text;
 mod token;
 mod tree;
 
+pub use document::first_document;
 pub use sqlite_items::Items;
 pub use std::alloc::AllocError as OutOfMemory;
 pub use text::Text;
