@@ -1,5 +1,5 @@
 -- The run of a class of bytes: all of it is of the class, and so ASCII.
-use Rattle.std.proofs.Common.{◌≡◌, ℕ, suc, ◌<◌, Bool, true, false, cond, List, [], ◌∷◌, take, All, refl, sym, ap, subst, ◌∙◌, arith}
+use Rattle.std.proofs.Common.{◌≡◌, ℕ, suc, ◌<◌, ◌≤◌, length, length-take, Bool, true, false, cond, List, [], ◌∷◌, take, All, refl, arith}
 use Rattle.std.specs.Prelude.{◌&&◌}
 use Rattle.std.specs.List.{list_all, AllByRecursion}
 use Rattle.std.proofs.lemmas.List.Elements.{All-from_recursion}
@@ -42,3 +42,14 @@ all_ascii class (b ∷ bytes) e = let parts = both _ _ e in (has_ascii class b p
 
 pub run_ascii : (class : Class) (bytes : List ℕ) → All (λ b. b < 128) (take (run_len class bytes) bytes)
 run_ascii class bytes = All-from_recursion (λ b. b < 128) _ (all_ascii class _ (run_all class bytes))
+
+within_with : (n : ℕ) (bytes : List ℕ) (t : Bool) → n ≤ length bytes → cond t (suc n) 0 ≤ suc (length bytes)
+within_with n bytes true h = omega arith
+within_with n bytes false h = omega arith
+
+run_within : (class : Class) (bytes : List ℕ) → run_len class bytes ≤ length bytes
+run_within class [] = omega arith
+run_within class (b ∷ bytes) = within_with (run_len class bytes) bytes (has class b) (run_within class bytes)
+
+pub full_run : (class : Class) (bytes : List ℕ) → length (take (run_len class bytes) bytes) ≡ run_len class bytes
+full_run class bytes = omega (arith, run_within class bytes, length-take (run_len class bytes) bytes)

@@ -1,6 +1,6 @@
 -- The bytes of a first text. (Blanks: XML 1.0, production 3. Names: its productions 4 and 4a, held to ASCII. The bytes of values are
 -- this project's own.)
-use Rattle.std.specs.Prelude.{ℕ, suc, ◌+◌, ◌==◌, Bool, true, false, if◌then◌else◌, nat_le, ◌&&◌, ◌||◌, List, [], ◌∷◌, count_by, drop}
+use Rattle.std.specs.Prelude.{ℕ, suc, ◌+◌, ◌==◌, Bool, false, if◌then◌else◌, nat_le, ◌&&◌, ◌||◌, List, [], ◌∷◌, count_by, drop}
 use Rattle.psa_text.specs.declared.bytes.Class.{Class}
 use Rattle.psa_text.specs.declared.bytes.Class.TheVariants.{Blank, Name, Value}
 

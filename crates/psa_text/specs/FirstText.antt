@@ -1,7 +1,7 @@
 -- A first text, by its grammar. (XML 1.0: start tags, end tags and empty tags, productions 40 to 44, attributes, production 41, and
 -- blank texts. The bytes of names and values, and all limits, are this project's own. Each class of bytes is of ASCII bytes, so a
 -- first text is ASCII.)
-use Rattle.std.specs.Prelude.{◌≡◌, ℕ, ◌+◌, ◌<◌, ◌≤◌, Bool, true, List, [], ◌∷◌, ◌++◌, length}
+use Rattle.std.specs.Prelude.{◌≡◌, ℕ, ◌<◌, ◌≤◌, true, List, [], ◌∷◌, ◌++◌, length}
 use Rattle.std.specs.List.{list_all}
 use Rattle.psa_text.specs.declared.bytes.Class.{Class}
 use Rattle.psa_text.specs.declared.bytes.Class.TheVariants.{Blank, Name, Value}

@@ -1,6 +1,6 @@
 -- Reading a first text from left to right: each reader gives what stands at the front of the bytes and the bytes behind it,
 -- or None where nothing of its kind stands there. What is read is in the grammar of FirstText.antt. (This project's own.)
-use Rattle.std.specs.Prelude.{ℕ, zero, suc, ◌+◌, ◌-◌, ◌==◌, Bool, true, false, if◌then◌else◌, nat_le, nat_lt, ◌&&◌, List, [], ◌∷◌, length, take, drop, Option, Some, None}
+use Rattle.std.specs.Prelude.{ℕ, zero, suc, ◌+◌, ◌-◌, ◌==◌, if◌then◌else◌, nat_le, nat_lt, ◌&&◌, List, [], ◌∷◌, length, take, drop, Option, Some, None}
 use Rattle.psa_text.specs.declared.bytes.Class.TheVariants.{Blank, Name, Value}
 use Rattle.psa_text.specs.declared.tree.Element.{Element}
 use Rattle.psa_text.specs.declared.tree.Attribute.{Attribute}

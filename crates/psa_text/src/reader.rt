@@ -74,10 +74,7 @@ fn read_tag_end(tag: Tag, bytes: &[u8]) -> Result<(Token, &[u8]), StepError>
 
 /// The attributes of a tag, at most one.
 #[tactic(auto, unfolding(crate::specs::Reading::attributes_at))]
-fn read_attributes(
-    alloc: Global,
-    bytes: &[u8],
-) -> Result<(Items<Attribute>, &[u8]), StepError>
+fn read_attributes(alloc: Global, bytes: &[u8]) -> Result<(Items<Attribute>, &[u8]), StepError>
     ensures read { Gives (λ x. (x.0, x.1.now)) result (attributes_at bytes.now) }
     ensures shorter { IfOk result (λ x. length x.1.now ≤ length bytes.now) }
 {
