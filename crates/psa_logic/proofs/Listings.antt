@@ -2,8 +2,8 @@
 use Rattle.std.proofs.Common.{◌≡◌, ◌⊎◌, ℕ, true, List, [], ◌∷◌, ◌++◌, map, refl, sym, ap, subst, ◌∙◌, inl, inr}
 use Rattle.std.proofs.lemmas.Bool.{and_parts, and_from}
 use Rattle.psa_logic.specs.Sets.{Has}
-use Rattle.psa_logic.specs.Products.{is_before, is_before_all, is_in_order, IsListing, positive_product}
-use Rattle.psa_logic.proofs.Orders.{before-not_self, before-trans, before-positive}
+use Rattle.psa_logic.specs.Products.{is_before, is_before_all, is_in_order, IsListing}
+use Rattle.psa_logic.proofs.Orders.{before-not_self, before-trans}
 
 -- an item of one of two lists is an item of both joined, and the other way round
 pub has-append_left : {A : Type 0} → (xs ys : List A) (x : A) → Has xs x → Has (xs ++ ys) x
@@ -70,16 +70,16 @@ in_order-across (z ∷ xs) ys h x y m n =
       | inr r ↦ in_order-across xs ys p.1 x y r n
     ]
 
--- the products of sets in order are in order
-pub in_order-positive : (sets : List (List ℕ)) → is_in_order sets ≡ true → is_in_order (map positive_product sets) ≡ true
-in_order-positive [] h = refl
-in_order-positive (x ∷ xs) h =
+-- what keeps the order of two lists keeps lists in order
+pub in_order-map : (f : List ℕ → List ℕ) → ((x y : List ℕ) → is_before x y ≡ true → is_before (f x) (f y) ≡ true) → (xs : List (List ℕ)) → is_in_order xs ≡ true → is_in_order (map f xs) ≡ true
+in_order-map f keeps [] h = refl
+in_order-map f keeps (x ∷ xs) h =
     let p = and_parts (is_before_all x xs) (is_in_order xs) h in
-    and_from (is_before_all (positive_product x) (map positive_product xs)) (is_in_order (map positive_product xs))
-    (before_all-from (positive_product x) (map positive_product xs) (λ z m.
-    let found = has-map_from positive_product xs z m in
-    subst (λ o. is_before (positive_product x) o ≡ true) found.2 (before-positive x found.0 (before_all-each x xs p.0 found.0 found.1))))
-    (in_order-positive xs p.1)
+    and_from (is_before_all (f x) (map f xs)) (is_in_order (map f xs))
+    (before_all-from (f x) (map f xs) (λ z m.
+    let found = has-map_from f xs z m in
+    subst (λ o. is_before (f x) o ≡ true) found.2 (keeps x found.0 (before_all-each x xs p.0 found.0 found.1))))
+    (in_order-map f keeps xs p.1)
 
 -- two lists in order with the same items are the same
 pub same-items : (xs ys : List (List ℕ)) → is_in_order xs ≡ true → is_in_order ys ≡ true → ((z : List ℕ) → Has xs z → Has ys z) → ((z : List ℕ) → Has ys z → Has xs z) → xs ≡ ys

@@ -104,6 +104,13 @@ before-total xs ys = elim (cases_order (length xs) (length ys)) [
   | inr o ↦ inr (elim o [ inl p ↦ inl (before-shorter xs ys p) | inr p ↦ inr (before-shorter ys xs p) ])
 ]
 
+-- one more head in front of both keeps the order
+pub before-cons : (x : ℕ) (xs ys : List ℕ) → is_before xs ys ≡ true → is_before (x ∷ xs) (x ∷ ys) ≡ true
+before-cons x xs ys h = elim (before-tells xs ys h) [
+  | inl p ↦ before-shorter (x ∷ xs) (x ∷ ys) (omega arith)
+  | inr p ↦ let e : length xs ≡ length ys = p.0 in before-lexical (x ∷ xs) (x ∷ ys) (omega arith) (lexical-same x xs ys ∙ p.1)
+]
+
 -- sets stand in the order of their products
 doubled-lexical : (xs ys : List ℕ) → is_lexically_before xs ys ≡ true → is_lexically_before (positive_product xs) (positive_product ys) ≡ true
 doubled-lexical [] [] h = h
