@@ -1,4 +1,5 @@
--- A count that rose is greater than before or stands at its last value, and rose still when more calls follow.
+-- A count that rose is greater than before or stands at its last value, and more calls before and
+-- after it change nothing of that.
 use Rattle.std.proofs.Common.{ℕ, ◌-◌, ◌^◌, ◌<◌, ◌≤◌, ◌⊎◌, arith}
 use Rattle.psa_ports.specs.Counts.{Rose}
 
@@ -12,5 +13,6 @@ pub Rose-cases : (before now : ℕ) → Rose before now → (before < now) ⊎ (
 Rose-cases before now rose = grind arith
 
 -- calls before and after it, which let no count fall
-pub Rose-within : (first before now last : ℕ) → first ≤ before → Rose before now → now ≤ last → Rose first last
+pub Rose-within : (first before now last : ℕ)
+    → first ≤ before → Rose before now → now ≤ last → Rose first last
 Rose-within first before now last sooner rose later = omega arith

@@ -1,7 +1,6 @@
 -- A file that is found by its name, at its place in the list.
-use Rattle.std.proofs.Common.{◌≡◌, ℕ, ◌<◌, ◌+◌, List, ◌∷◌, Some, true, length, drop, get_or, drop-cons, add-one, sym, ap, ◌∙◌, subst, refl, cond, arith}
+use Rattle.std.proofs.Common.{◌≡◌, ℕ, ◌<◌, ◌+◌, List, ◌∷◌, Some, true, length, drop, get_or, sym, ap, ◌∙◌, refl, arith}
 use Rattle.std.specs.Str.{bytes_eq}
-use Rattle.std.specs.List.{slice_get}
 use Rattle.std.proofs.lemmas.Grind.{common_steps}
 use Rattle.std.proofs.lemmas.Option.{slice_get_read}
 use Rattle.psa_ports.specs.Folder.{text_of}

@@ -2,8 +2,8 @@
 use Rattle.std.specs.Prelude.{ℕ, List, [], Bool, ◌||◌, ◌++◌, ◌-◌, take, min, length, nat_le, if◌then◌else◌}
 use Rattle.psa_ports.specs.Counts.{one_more, is_failing}
 
--- what callers see of it: the bytes that it took; the most that it holds; the most that it takes at once; the numbers of
--- the writes that fail; and the counts of writes and of faults
+-- what callers see of it: the bytes that it took; the most that it holds; the most that it takes
+-- at once; the numbers of the writes that fail; and the counts of writes and of faults
 pub record SinkState : Type 0 where
   pub written : List ℕ
   pub room : ℕ
@@ -14,7 +14,14 @@ pub record SinkState : Type 0 where
 
 -- a sink that took nothing yet
 abbrev pub new_sink : ℕ → ℕ → List ℕ → SinkState
-new_sink room piece failing = record { written = []; room = room; piece = piece; failing = failing; writes = 0; faults = 0 }
+new_sink room piece failing = record {
+  written = [];
+  room = room;
+  piece = piece;
+  failing = failing;
+  writes = 0;
+  faults = 0;
+}
 
 -- a write fails now: it is one of those that fail, or the sink is full
 abbrev pub refuses : SinkState → Bool
@@ -29,4 +36,5 @@ abbrev pub after_write : SinkState → List ℕ → SinkState
 after_write sink bytes = record sink {
   written = (if refuses sink then sink.written else sink.written ++ take (write_count sink (length bytes)) bytes);
   writes = one_more sink.writes;
-  faults = (if refuses sink then one_more sink.faults else sink.faults) }
+  faults = (if refuses sink then one_more sink.faults else sink.faults);
+}

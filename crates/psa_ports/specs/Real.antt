@@ -2,8 +2,8 @@
 use Rattle.std.specs.Prelude.{ℕ, List, [], Option, Some, None, Bool, false, Result, is_ok, if◌then◌else◌}
 use Rattle.psa_ports.specs.Counts.{one_more}
 
--- what callers see of a folder of files: whether one is open; what it has left to give, where its type says so; and the
--- counts of faults, of opens and of reads
+-- what callers see of a folder of files: whether one is open; what it has left to give, where its
+-- type says so; and the counts of faults, of opens and of reads
 pub record FilesState : Type 0 where
   pub is_open : Bool
   pub left : Option (List ℕ)
@@ -20,7 +20,8 @@ left_of remaining (Some file) = remaining file
 abbrev pub new_files : FilesState
 new_files = record { is_open = false; left = Some []; faults = 0; opens = 0; reads = 0 }
 
--- what callers see of a sink over a writer: the bytes that the writer holds, where its type says so; the count of faults
+-- what callers see of a sink over a writer: the bytes that the writer holds, where its type says
+-- so; and the count of faults
 pub record WriterState : Type 0 where
   pub contents : Option (List ℕ)
   pub faults : ℕ

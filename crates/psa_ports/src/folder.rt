@@ -8,10 +8,11 @@ use crate::Failed;
 
 /// Files that are read one at a time, by name and in pieces.
 ///
-/// A folder has these meanings. `texts`: the name and the bytes of each file, where they are told. `rest`: the bytes of
-/// the opened file that are not yet read, where they are told. `faults`: a count of faults that never falls. `opens`
-/// and `reads`: the numbers of calls of `open` and of `read`. `allows`: the names that may be opened. Each count is
-/// held at 2^64 - 1, and no call changes `texts` or `allows`. What is not told, no clause speaks of.
+/// A folder has these meanings. `texts`: the name and the bytes of each file, where they are told.
+/// `rest`: the bytes of the opened file that are not yet read, where they are told. `faults`: a
+/// count of faults that never falls. `opens` and `reads`: the numbers of calls of `open` and of
+/// `read`. `allows`: the names that may be opened. Each count is held at 2^64 - 1, and no call
+/// changes `texts` or `allows`. What is not told, no clause speaks of.
 pub trait Folder {
     ghost texts: { Self → Option (List (List ℕ × List ℕ)) };
 
@@ -41,8 +42,9 @@ pub trait Folder {
         ensures texts { texts self.new ≡ texts self.old }
         ensures allows { allows self.new ≡ allows self.old };
 
-    /// Moves the next bytes of the opened file to the front of `buf`, and answers their number: 0 only at the file's end.
-    /// Refuses, with `rest` unchanged, only where `faults` rose in this call.
+    /// Moves the next bytes of the opened file to the front of `buf`, and answers their number,
+    /// which is 0 only at the file's end. Refuses, with `rest` unchanged, only where `faults` rose
+    /// in this call.
     fn read(&mut self, buf: &mut [u8]) -> Result<usize, Failed>
         requires { 0 < length buf.old }
 

@@ -12,9 +12,10 @@ use std::marker::Model;
 
 /// A folder in memory, which gives its files in pieces and fails where it is told to.
 ///
-/// Its calls of `open` and `read` together are numbered from 0, and the number is held at 2^64 - 1. A call fails whose
-/// number is in `failing`, and an open of a name that no file has; no other call fails. Each failed call, and nothing
-/// else, raises its count of faults. It allows every name, and takes no memory.
+/// Its calls of `open` and `read` together are numbered from 0, and the number is held at 2^64 - 1.
+/// A call fails whose number is in `failing`, and an open of a name that no file has; no other call
+/// fails. Each failed call, and nothing else, raises its count of faults. It allows every name, and
+/// takes no memory.
 #[derive(Debug, Drop)]
 pub struct MemoryFolder {
     texts: Items<(Text, Items<u8>)>,
@@ -35,16 +36,23 @@ impl Model for MemoryFolder {
     ghost Value = { FolderState };
 
     ghost view = { λ f. record {
-        texts = f.texts; piece = f.piece; failing = f.failing; rest = drop f.at (bytes_at f.texts f.opened);
-        calls = f.calls; faults = f.faults; opens = f.opens; reads = f.reads } };
+      texts = f.texts;
+      piece = f.piece;
+      failing = f.failing;
+      rest = drop f.at (bytes_at f.texts f.opened);
+      calls = f.calls;
+      faults = f.faults;
+      opens = f.opens;
+      reads = f.reads;
+    } };
 
     ghost invariant = { λ f. (0 < f.piece) × (f.at ≤ length (bytes_at f.texts f.opened)) };
 }
 
 impl MemoryFolder {
-    /// A folder with these files, each a name and its bytes, in which nothing is opened and every count is 0. Of two
-    /// files with one name the first is opened. One read gives at most `piece` bytes; `failing` has the numbers of the
-    /// calls that fail.
+    /// A folder with these files, each a name and its bytes, in which nothing is opened and every
+    /// count is 0. Of two files with one name the first is opened. One read gives at most `piece`
+    /// bytes, which is at least 1; `failing` has the numbers of the calls that fail.
     pub fn new(texts: Items<(Text, Items<u8>)>, piece: usize, failing: Items<u64>) -> MemoryFolder
         requires { 0 < piece }
         ensures { result ≡ new_folder texts piece failing }
@@ -97,8 +105,8 @@ impl Folder for MemoryFolder {
 
     ghost allows = { λ _ _. true };
 
-    /// Opens the first file with this name. Refuses exactly where this call is one of those that fail or no file has
-    /// the name; nothing is opened then.
+    /// Opens the first file with this name. Refuses exactly where this call is one of those that
+    /// fail or no file has the name; nothing is opened then.
     fn open(&mut self, name: &str) -> Result<(), Failed>
         ensures opened { OnOk result (Opens (Some self.old.texts) name.now (Some self.new.rest)) }
         ensures shut { OnErr result (IsAtEnd (Some self.new.rest)) }
@@ -129,8 +137,8 @@ impl Folder for MemoryFolder {
         }
     }
 
-    /// Gives as many bytes as `buf`, the piece and what is left allow. Refuses exactly where this call is one of those
-    /// that fail. Where nothing is open it gives none.
+    /// Gives as many bytes as `buf`, the piece and what is left allow. Refuses exactly where this
+    /// call is one of those that fail; nothing is moved then. Where nothing is open it gives none.
     fn read(&mut self, buf: &mut [u8]) -> Result<usize, Failed>
         requires { 0 < length buf.old }
 
@@ -162,7 +170,8 @@ impl Folder for MemoryFolder {
 
 // The place of the first file with this name.
 fn place_of(texts: &[(Text, Items<u8>)], name: &str) -> Option<usize>
-    ensures { text_of name.now texts.now ≡ option_map (λ place. bytes_at texts.now (Some place)) result }
+    ensures { text_of name.now texts.now
+        ≡ option_map (λ place. bytes_at texts.now (Some place)) result }
 {
     for (place, file) in texts.iter().enumerate() {
         if file.0.as_str() == name {

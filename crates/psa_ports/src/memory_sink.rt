@@ -11,9 +11,9 @@ use std::marker::Model;
 
 /// A sink in memory, which takes its bytes in pieces and fails where it is told to.
 ///
-/// Its writes are numbered from 0, and the number is held at 2^64 - 1. A write fails whose number is in `failing`, and
-/// one that finds `room` bytes taken already; no other write fails. Each failed write, and nothing else, raises its
-/// count of faults. A write takes no memory.
+/// Its writes are numbered from 0, and the number is held at 2^64 - 1. A write fails whose number
+/// is in `failing`, and one that finds `room` bytes taken already; no other write fails. Each failed
+/// write, and nothing else, raises its count of faults. A write takes no memory.
 #[derive(Debug, Drop)]
 pub struct MemorySink {
     bytes: Vec<u8>,
@@ -32,15 +32,28 @@ impl Model for MemorySink {
     ghost Value = { SinkState };
 
     ghost view = { λ s. record {
-        written = s.bytes.items; room = s.room; piece = s.piece; failing = s.failing; writes = s.writes; faults = s.faults } };
+      written = s.bytes.items;
+      room = s.room;
+      piece = s.piece;
+      failing = s.failing;
+      writes = s.writes;
+      faults = s.faults;
+    } };
 
-    ghost invariant = { λ s. (0 < s.piece) × (s.room ≤ vec_capacity s.bytes) × (vec_len s.bytes ≤ s.room) };
+    ghost invariant = { λ s.
+        (0 < s.piece) × (s.room ≤ vec_capacity s.bytes) × (vec_len s.bytes ≤ s.room) };
 }
 
 impl MemorySink {
-    /// A sink that has taken nothing, with its room of `room` bytes taken now. One write takes at most `piece` bytes;
-    /// `failing` has the numbers of the writes that fail. Refuses only for want of memory.
-    pub fn new(alloc: Global, room: usize, piece: usize, failing: Items<u64>) -> Result<MemorySink, OutOfMemory>
+    /// A sink that has taken nothing, with its room of `room` bytes taken now. One write takes at
+    /// most `piece` bytes, which is at least 1; `failing` has the numbers of the writes that fail.
+    /// Refuses only for want of memory.
+    pub fn new(
+        alloc: Global,
+        room: usize,
+        piece: usize,
+        failing: Items<u64>,
+    ) -> Result<MemorySink, OutOfMemory>
         requires { 0 < piece }
         ensures { IfOk result (λ made. made ≡ new_sink room piece failing) }
     {
@@ -75,8 +88,8 @@ impl Sink for MemorySink {
 
     ghost faults = { λ s. s.faults };
 
-    /// Takes as many bytes as `piece`, the sink's own piece and its room allow. Refuses exactly where this write is one
-    /// of those that fail or the room is full; nothing is taken then.
+    /// Takes as many bytes as `piece`, the sink's own piece and its room allow. Refuses exactly
+    /// where this write is one of those that fail or the room is full; nothing is taken then.
     fn write(&mut self, piece: &[u8]) -> Result<usize, Failed>
         requires { 0 < length piece.now }
 
@@ -95,8 +108,13 @@ impl Sink for MemorySink {
             self.faults = self.faults.saturating_add(1);
             return Err(Failed);
         }
-        let count = piece.len().min(self.piece).min(self.room - self.bytes.len());
-        self.bytes.extend_from_slice(piece.split_at(count).0).unwrap();
+        let count = piece
+            .len()
+            .min(self.piece)
+            .min(self.room - self.bytes.len());
+        self.bytes
+            .extend_from_slice(piece.split_at(count).0)
+            .unwrap();
         Ok(count)
     }
 }

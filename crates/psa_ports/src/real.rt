@@ -10,7 +10,8 @@ use std::io::{Read, Write};
 use std::marker::Model;
 use std::rt::Files;
 
-/// The files of the operating system. It tells no content, allows every name and counts faults, opens and reads.
+/// The files of the operating system. It tells no content, allows every name, and counts faults,
+/// opens and reads.
 #[derive(Drop)]
 pub struct StdFolder<R: Files> {
     files: R,
@@ -27,8 +28,12 @@ impl<R: Files> Model for StdFolder<R> {
     ghost Value = { FilesState };
 
     ghost view = { λ f. record {
-        is_open = is_some f.opened; left = left_of R.File.remaining f.opened;
-        faults = f.faults; opens = f.opens; reads = f.reads } };
+      is_open = is_some f.opened;
+      left = left_of R.File.remaining f.opened;
+      faults = f.faults;
+      opens = f.opens;
+      reads = f.reads;
+    } };
 }
 
 impl<R: Files> StdFolder<R> {
@@ -172,10 +177,14 @@ impl<W: Write> Sink for StdSink<W> {
         ensures most { WritesAtMost result piece.now }
         ensures cause { HasCause self.old.faults self.new.faults result }
 
-        ensures bytes { IfOk result (λ count. Appends self.old.contents self.new.contents (take count piece.now)) }
+        ensures bytes { IfOk result (λ count.
+            Appends self.old.contents self.new.contents (take count piece.now)) }
         ensures faults { self.new.faults ≡ faults_after self.old.faults result }
     {
-        if let Ok(count) = self.writer.write(piece) && count > 0 && self.writer.flush().is_ok() {
+        if let Ok(count) = self.writer.write(piece)
+            && count > 0
+            && self.writer.flush().is_ok()
+        {
             return Ok(count);
         }
         self.faults = self.faults.saturating_add(1);

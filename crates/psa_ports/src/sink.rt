@@ -8,8 +8,9 @@ use crate::Failed;
 
 /// What takes bytes, piece by piece.
 ///
-/// A sink has these meanings. `written`: the bytes that it has taken, where they are told. `faults`: a count of faults
-/// that never falls, held at 2^64 - 1. What is not told, no clause speaks of.
+/// A sink has these meanings. `written`: the bytes that it has taken, where they are told.
+/// `faults`: a count of faults that never falls, held at 2^64 - 1. What is not told, no clause
+/// speaks of.
 pub trait Sink {
     ghost written: { Self → Option (List ℕ) };
 
@@ -26,8 +27,8 @@ pub trait Sink {
         ensures cause { HasCause (faults self.old) (faults self.new) result };
 }
 
-/// Writes all of `bytes`, in as many writes as `sink` asks for. It takes no memory.
-/// Refuses only where the sink's `faults` rose in this call; a prefix of `bytes` was appended then.
+/// Writes all of `bytes`, in as many writes as `sink` asks for. It takes no memory. Refuses only
+/// where the sink's `faults` rose in this call; a prefix of `bytes` was appended then.
 pub fn put<S: Sink>(sink: &mut S, bytes: &[u8]) -> Result<(), Failed>
     ensures whole { OnOk result (Appends (S.written sink.old) (S.written sink.new) bytes.now) }
     ensures part { AppendsPrefix (S.written sink.old) (S.written sink.new) bytes.now }

@@ -1,6 +1,5 @@
 -- The file that has the name is the first that has it.
-use Rattle.std.proofs.Common.{rules, ◌≡◌, true}
-use Rattle.std.specs.Str.{bytes_eq}
+use Rattle.std.proofs.Common.{rules}
 use Rattle.psa_ports.proofs.Places.{text_of-file}
 use Rattle.psa_ports.proofs.memory_folder.place_of.Goals as goal
 
