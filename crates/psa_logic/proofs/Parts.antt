@@ -173,3 +173,14 @@ part-from_has (t ∷ ts) (x ∷ xs) h k each =
             | inr s ↦ s
           ]))
     ]
+
+-- two sets with the same members are the same
+pub sets-same : (xs ys : List ℕ) → is_ascending xs ≡ true → is_ascending ys ≡ true → ((n : ℕ) → occurs xs n ≡ occurs ys n) → xs ≡ ys
+sets-same xs ys h k same =
+    let into : is_part xs ys ≡ true = part-from_has xs ys h k (λ n m. occurs-has ys n (sym (same n) ∙ has-occurs xs n m)) in
+    let back : is_part ys xs ≡ true = part-from_has ys xs k h (λ n m. occurs-has xs n (same n ∙ has-occurs ys n m)) in
+    let le : length ys ≤ length xs = part-le ys xs back in
+    elim (part-length xs ys into) [
+      | inl shorter ↦ absurd (omega arith)
+      | inr e ↦ e
+    ]

@@ -4,4 +4,8 @@
 
 mod laws;
 
-pub use laws::{listing_is_unique, parts_are_subsets, report_order_is_strict};
+pub use laws::{
+    consistent_products_hold, listing_is_unique, literal_numbers_are_read_back,
+    minimal_cut_sets_are_least, parts_are_subsets, prime_implicants_are_least,
+    report_order_is_strict, sets_are_their_members,
+};
