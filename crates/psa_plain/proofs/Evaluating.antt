@@ -1,5 +1,5 @@
 -- The steps of the evaluation, each as what it says of the answer.
-use Rattle.std.proofs.Common.{◌≡◌, ◌≤◌, ◌<◌, ◌+◌, ◌-◌, ◌⊎◌, inl, inr, ℕ, suc, zero, Bool, true, false, List, [], ◌∷◌, ◌++◌, Option, Some, None, length, map, take, get_or, cond, ◌||◌, not, unwrap_or, refl, ap, sym, ◌∙◌, subst, arith}
+use Rattle.std.proofs.Common.{◌≡◌, ◌≤◌, ◌<◌, ◌+◌, ◌-◌, ◌⊎◌, inl, inr, ℕ, suc, Bool, true, false, List, [], ◌∷◌, Some, None, length, map, take, get_or, cond, ◌||◌, not, unwrap_or, refl, ap, sym, ◌∙◌, subst, arith}
 use Rattle.std.proofs.lemmas.List.{take_all}
 use Rattle.std.proofs.lemmas.Option.{slice_get-map}
 use Rattle.std.specs.List.{slice_get, list_all, list_any}
@@ -12,11 +12,10 @@ use Rattle.psa_model.specs.declared.ids.GateId.{GateId}
 use Rattle.psa_model.specs.declared.ids.HouseId.{HouseId}
 use Rattle.psa_model.specs.declared.model.Gate.{Gate}
 use Rattle.psa_model.specs.declared.model.House.{House}
-use Rattle.psa_model.specs.declared.model.Model.{Model}
 use Rattle.psa_model.specs.declared.expanded.Expanded.{Expanded}
 use Rattle.psa_model.specs.Events.{events_of}
 use Rattle.psa_model.specs.Formulas.{connected, count_true}
-use Rattle.psa_model.specs.Truth.{truth, within, house_states, at_gate, state_of}
+use Rattle.psa_model.specs.Truth.{truth, house_states, at_gate, state_of}
 use Rattle.psa_model.proofs.Levels.{truth-gate, truth-basic, truth-house, truth-constant, truth-connective, some-level, arguments-within, gate-within}
 use Rattle.psa_plain.specs.declared.evaluation.Question.{Question}
 use Rattle.psa_plain.specs.declared.memo.Memo.{Memo}

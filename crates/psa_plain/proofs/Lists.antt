@@ -1,11 +1,11 @@
 -- Lists by place.
-use Rattle.std.proofs.Common.{◌≡◌, ◌≤◌, ◌<◌, ◌+◌, ℕ, suc, zero, Bool, true, false, List, [], ◌∷◌, ◌++◌, Option, Some, None, length, eqb, cond, map, take, drop, get_or, replicate, ◌||◌, refl, ap, sym, ◌∙◌, subst, suc-add, add-one, arith}
+use Rattle.std.proofs.Common.{◌≡◌, ◌≤◌, ◌<◌, ◌+◌, ℕ, suc, zero, Bool, true, false, List, [], ◌∷◌, ◌++◌, Some, length, eqb, cond, map, drop, get_or, replicate, ◌||◌, refl, ap, sym, ◌∙◌, subst, suc-add, add-one, arith}
 use Rattle.std.proofs.lemmas.Bool.Decides.{nat_tests}
-use Rattle.std.proofs.lemmas.List.{drop_more, drop_all, take_more, append_assoc, length-append}
+use Rattle.std.proofs.lemmas.List.{drop_more, drop_all, append_assoc, length-append}
 use Rattle.psa_model.specs.declared.model.Model.{Model}
 use Rattle.psa_model.specs.declared.expanded.Expanded.{Expanded}
 use Rattle.psa_plain.specs.Index.{IsIndex}
-use Rattle.std.specs.List.{slice_get, list_all, list_any, filter}
+use Rattle.std.specs.List.{slice_get, list_all, list_any}
 use Rattle.psa_logic.specs.Sets.{occurs}
 use Rattle.psa_model.proofs.Levels.{and-left, and-right}
 use Rattle.psa_model.specs.declared.ids.EventNumber.{EventNumber}

@@ -1,7 +1,6 @@
 -- What a memo knows after a write and in a new round.
-use Rattle.std.proofs.Common.{◌≡◌, ◌≤◌, ◌<◌, ◌+◌, ◌⊎◌, inl, inr, ℕ, suc, zero, Bool, true, false, List, [], ◌∷◌, ◌++◌, Option, Some, None, length, eqb, leb, cond, nat_le, ◌&&◌, refl, ap, sym, ◌∙◌, subst, arith}
+use Rattle.std.proofs.Common.{◌≡◌, ◌≤◌, ◌+◌, ◌⊎◌, inl, inr, ℕ, suc, zero, Bool, true, false, List, [], ◌∷◌, ◌++◌, Some, None, eqb, leb, cond, nat_le, refl, ap, arith}
 use Rattle.std.proofs.lemmas.Bool.Decides.{nat_tests}
-use Rattle.std.proofs.lemmas.List.Folds.{list_all-append}
 use Rattle.std.specs.List.{slice_get, slice_set, list_all}
 use Rattle.psa_model.proofs.Levels.{and-left, and-right, and-both}
 use Rattle.psa_plain.specs.declared.memo.Entry.{Entry}

@@ -1,9 +1,9 @@
 -- Ranks by first places.
-use Rattle.std.proofs.Common.{◌≡◌, ◌≤◌, ◌<◌, ◌+◌, ◌-◌, ℕ, suc, zero, Bool, true, false, List, [], ◌∷◌, ◌++◌, Option, Some, None, length, map, take, drop, get_or, eqb, cond, not, ◌||◌, ◌&&◌, nat_eq, Result, Ok, Err, OnOk, refl, ap, sym, ◌∙◌, subst, arith}
+use Rattle.std.proofs.Common.{◌≡◌, ◌≤◌, ◌<◌, ◌+◌, ◌-◌, ℕ, suc, Bool, true, false, List, [], ◌∷◌, ◌++◌, Some, None, length, map, take, get_or, eqb, cond, not, ◌||◌, ◌&&◌, nat_eq, Result, Ok, Err, OnOk, refl, ap, sym, ◌∙◌, subst, arith}
 use Rattle.std.proofs.lemmas.Bool.Decides.{nat_tests}
-use Rattle.std.proofs.lemmas.List.{append-nil, append_assoc, map-append, take_all, take_more, drop_more}
+use Rattle.std.proofs.lemmas.List.{append-nil, append_assoc, take_all, take_more}
 use Rattle.std.proofs.lemmas.List.Folds.{list_any-append}
-use Rattle.std.specs.List.{slice_get, list_all, list_any, filter, flat_map}
+use Rattle.std.specs.List.{slice_get, list_all, filter, flat_map}
 use Rattle.std.specs.HashSet.{contains}
 use Rattle.psa_model.specs.declared.formula.Connective.{Connective}
 use Rattle.psa_model.specs.declared.formula.Formula.{Formula}
@@ -27,7 +27,7 @@ use Rattle.psa_model.specs.Ranks.{AreRanks}
 use Rattle.psa_model.specs.Truth.{IsResolved}
 use Rattle.psa_model.proofs.Levels.{within-of-gate}
 use Rattle.psa_plain.specs.Tops.{IsTop}
-use Rattle.psa_plain.proofs.Lists.{all-at, at-place}
+use Rattle.psa_plain.proofs.Lists.{at-place}
 
 -- one more number
 abbrev pub with_one : List ℕ → ℕ → List ℕ

@@ -1,13 +1,13 @@
 -- Which gates a formula refers to, and the marks of top events.
-use Rattle.std.proofs.Common.{◌≡◌, ◌≤◌, ◌<◌, ◌+◌, ℕ, suc, zero, Bool, true, false, List, [], ◌∷◌, ◌++◌, Option, Some, None, length, eqb, cond, not, map, take, drop, get_or, set, replicate, ◌&&◌, ◌||◌, refl, ap, sym, ◌∙◌, subst, arith}
+use Rattle.std.proofs.Common.{◌≡◌, ◌≤◌, ◌<◌, ◌+◌, ℕ, Bool, true, false, List, [], ◌∷◌, ◌++◌, Some, None, length, eqb, cond, not, map, take, drop, get_or, set, replicate, ◌&&◌, ◌||◌, refl, ap, sym, ◌∙◌, subst, arith}
 use Rattle.std.proofs.lemmas.Bool.Decides.{nat_tests}
 use Rattle.std.proofs.lemmas.List.{length-set, get_or-set_same, get_or-set_other, take_all, length-replicate, append_assoc, set-get_or}
 use Rattle.std.proofs.lemmas.List.Folds.{list_any_more}
-use Rattle.std.specs.List.{slice_get, list_all, list_any}
+use Rattle.std.specs.List.{slice_get, list_any}
 use Rattle.psa_model.specs.declared.formula.Connective.{Connective}
 use Rattle.psa_model.specs.declared.formula.Formula.{Formula}
 use Rattle.psa_model.specs.declared.formula.Formula.TheOpen.{Formula-F}
-use Rattle.psa_model.specs.declared.formula.Formula.TheFolds.{fold-Formula, fold-roll-Formula}
+use Rattle.psa_model.specs.declared.formula.Formula.TheFolds.{fold-roll-Formula}
 use Rattle.psa_model.specs.declared.formula.Formula.TheViews.{rolls-Gate, rolls-Basic, rolls-House, rolls-Constant, rolls-Connective}
 use Rattle.psa_model.specs.declared.formula.Formula.TheVariants as variant
 use Rattle.psa_model.specs.declared.ids.EventId.{EventId}

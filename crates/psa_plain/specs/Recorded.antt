@@ -1,5 +1,5 @@
 -- What a memo of gates knows: an entry counts where it was written in the round under way.
-use Rattle.std.specs.Prelude.{◌==◌, ℕ, Bool, List, Option, Some, None, if◌then◌else◌}
+use Rattle.std.specs.Prelude.{◌==◌, ℕ, Bool, Option, Some, None, if◌then◌else◌}
 use Rattle.std.specs.List.{slice_get}
 use Rattle.psa_plain.specs.declared.memo.Entry.{Entry}
 use Rattle.psa_plain.specs.declared.memo.Memo.{Memo}

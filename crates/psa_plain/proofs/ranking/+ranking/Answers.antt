@@ -1,10 +1,10 @@
-use Rattle.std.proofs.Common.{◌≡◌, ◌<◌, ◌-◌, true, false, Some, None, List, [], length, unwrap_or, sym, ap, ◌∙◌, subst, refl, arith}
+use Rattle.std.proofs.Common.{◌≡◌, ◌-◌, true, List, sym, ap, ◌∙◌, subst, refl, arith}
 use Rattle.std.specs.List.{slice_get, list_all}
 use Rattle.psa_model.specs.declared.formula.Formula.{Formula}
 use Rattle.psa_model.specs.declared.formula.Formula.TheVariants as variant
 use Rattle.psa_model.specs.Truth.{within}
 use Rattle.psa_model.proofs.Levels.{some-level, arguments-within, gate-within, basic-stands}
-use Rattle.psa_plain.proofs.Ranks.{AllRanked, FormulaRanked, ranked-as, ranked-basic, ranked-house, ranked-constant, ranked-connective, ranked-start, ranked-more, ranked-end, ranked-left, ranked-gate, ranked-missing, on-ok}
+use Rattle.psa_plain.proofs.Ranks.{AllRanked, ranked-as, ranked-basic, ranked-house, ranked-constant, ranked-connective, ranked-start, ranked-more, ranked-end, ranked-left, ranked-gate, ranked-missing, on-ok}
 use Rattle.psa_plain.proofs.Evaluating.{indexed}
 use Rattle.psa_plain.proofs.Lists.{all-at}
 use Rattle.psa_plain.proofs.ranking.+ranking.Goals as goal
