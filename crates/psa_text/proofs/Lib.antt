@@ -1,0 +1,6 @@
+pub mod Runs
+pub mod Turns
+pub mod Stands
+pub mod Depths
+pub mod Spelled
+pub mod FirstTexts
