@@ -8,6 +8,7 @@ mod expression;
 mod fault;
 mod formula;
 mod ids;
+mod laws;
 mod model;
 mod product;
 mod settings;
@@ -27,6 +28,7 @@ pub use ids::{
     BranchId, EventId, EventNumber, FaultTreeId, FormulaId, FunctionalId, GateId, GroupId, HouseId,
     InitiatingId, ParameterId, Place, RuleId, SequenceId, TreeId,
 };
+pub use laws::{gate_is_its_formula, more_levels_change_nothing};
 pub use model::{
     BasicEvent, EventTree, Factor, FaultTree, Functional, Gate, Group, GroupModel, House,
     Initiating, MAX_DEPTH, Model, NamedBranch, Parameter, RuleDefinition, Sequence, Valued,
