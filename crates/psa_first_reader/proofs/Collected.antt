@@ -1,6 +1,6 @@
 -- A loop that reads one item after another: what was read so far, and what the rest gives.
 use Rattle.std.proofs.Common.{◌≡◌, ℕ, suc, ◌+◌, ◌<◌, ◌≤◌, Bool, true, false, cond, Option, Some, None, List, [], ◌∷◌, ◌++◌, length, get_or, take, drop, map, refl, sym, ap, ◌∙◌, append_assoc, append-nil, arith}
-use Rattle.std.proofs.lemmas.List.{drop_more, drop_all}
+use Rattle.std.proofs.lemmas.List.{drop_more, drop_all, length-map}
 use Rattle.std.specs.List.{filter}
 use Rattle.std.specs.Option.{option_map}
 use Rattle.psa_first_reader.specs.Definitions.{all_some, cons_both}
@@ -55,3 +55,6 @@ length-all_some (Some x ∷ xs) ys h =
     consed : {A : Type 0} (x : A) (r : Option (List A)) (ys : List A) (n : ℕ) → ((zs : List A) → r ≡ Some zs → length zs ≡ n) → cons_both (Some x) r ≡ Some ys → length ys ≡ suc n
     consed x None ys n ih h = absurd (cc)
     consed x (Some zs) ys n ih h = let e : ys ≡ x ∷ zs = cc in ap length e ∙ ap suc (ih zs refl)
+
+pub length-all_some_map : {X A : Type 0} (f : X → Option A) (xs : List X) (ys : List A) → all_some (map f xs) ≡ Some ys → length ys ≡ length xs
+length-all_some_map f xs ys h = length-all_some (map f xs) ys h ∙ length-map xs f

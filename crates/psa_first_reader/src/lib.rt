@@ -4,7 +4,7 @@
 mod definitions;
 mod error;
 mod formulas;
-// mod model;
+mod model;
 mod names;
 
-// pub use model::read_first_model;
+pub use model::read_first_model;
