@@ -11,6 +11,7 @@ use Rattle.psa_text.specs.Reading.{token_at, tree_from, tree_of}
 use Rattle.psa_text.specs.FirstText.{AreItems, no_item, and_item, IsFirstText}
 use Rattle.psa_text.proofs.Stands.{not_held, Stands, step_stands, starts, end_stands}
 use Rattle.psa_text.proofs.Depths.{IsWithin, step_within, end_within}
+use Rattle.psa_text.proofs.Ascii.{items_ascii}
 use Rattle.psa_text.proofs.Spelled.{with_ok, token_takes}
 
 -- the bytes spell items that are a document
@@ -69,4 +70,4 @@ pub is_first_text : (bytes : List ℕ) (root : Element) → length bytes ≤ 104
 is_first_text bytes root bounded h =
     let start : HasRead [] 1 at_start = record { items = []; spelled = no_item; at = refl; stands = starts; within = (tt, tt) } in
     let all = reads (length bytes + 1) bytes [] 1 at_start root start h in
-    record { items = all.items; spelled = all.spelled; document = all.document; bounded = bounded }
+    record { items = all.items; spelled = all.spelled; document = all.document; bounded = bounded; ascii = items_ascii bytes all.items all.spelled }

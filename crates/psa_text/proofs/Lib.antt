@@ -3,4 +3,5 @@ pub mod Turns
 pub mod Stands
 pub mod Depths
 pub mod Spelled
+pub mod Ascii
 pub mod FirstTexts

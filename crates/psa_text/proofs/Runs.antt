@@ -36,7 +36,7 @@ both true true e = (refl, refl)
 both true false e = absurd cc
 both false b e = absurd cc
 
-all_ascii : (class : Class) (bytes : List ℕ) → list_all (has class) bytes ≡ true → AllByRecursion (λ b. b < 128) bytes
+pub all_ascii : (class : Class) (bytes : List ℕ) → list_all (has class) bytes ≡ true → AllByRecursion (λ b. b < 128) bytes
 all_ascii class [] e = tt
 all_ascii class (b ∷ bytes) e = let parts = both _ _ e in (has_ascii class b parts.0, all_ascii class bytes parts.1)
 

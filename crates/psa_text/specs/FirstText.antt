@@ -1,8 +1,7 @@
 -- A first text, by its grammar. (XML 1.0: start tags, end tags and empty tags, productions 40 to 44, attributes, production 41, and
--- blank texts. The bytes of names and values, and all limits, are this project's own. Each class of bytes is of ASCII bytes, so a
--- first text is ASCII.)
+-- blank texts. The bytes of names and values, and all limits, are this project's own. Each class of bytes is of ASCII bytes.)
 use Rattle.std.specs.Prelude.{◌≡◌, ℕ, ◌<◌, ◌≤◌, true, List, [], ◌∷◌, ◌++◌, length}
-use Rattle.std.specs.List.{list_all}
+use Rattle.std.specs.List.{list_all, AllByRecursion}
 use Rattle.psa_text.specs.declared.bytes.Class.{Class}
 use Rattle.psa_text.specs.declared.bytes.Class.TheVariants.{Blank, Name, Value}
 use Rattle.psa_text.specs.declared.tree.Element.{Element}
@@ -12,6 +11,10 @@ use Rattle.psa_text.specs.declared.token.Token.{Token}
 use Rattle.psa_text.specs.declared.token.Token.TheVariants.{Start, Empty, End, Passed}
 use Rattle.psa_text.specs.Bytes.{has, begins_name, line_after}
 use Rattle.psa_text.specs.Tree.{Item, IsDocument}
+
+-- each byte is an ASCII byte
+abbrev pub AreAscii : List ℕ → Type 0
+AreAscii bytes = AllByRecursion (λ b. b < 128) bytes
 
 -- each byte is of the class
 abbrev pub AreOf : Class → List ℕ → Type 0
@@ -69,3 +72,4 @@ pub record IsFirstText (bytes : List ℕ) (root : Element) : Type 0 where
   pub spelled : AreItems bytes items
   pub document : IsDocument items root
   pub bounded : length bytes ≤ 1048576
+  pub ascii : AreAscii bytes

@@ -15,9 +15,9 @@ use std::alloc::Global;
 const MAX_BYTES: usize = 1_048_576;
 
 /// The tree of a first text, None where the bytes are none. A first text has at most 1,048,576
-/// bytes: start tags, empty tags and end tags with at most one attribute each, and blank texts,
-/// as one element of depth at most 64. Names have at most 64 bytes, values stand in `"` and have
-/// at most 128. Lines are counted from 1. (A profile of XML 1.0.)
+/// bytes. It is start tags, empty tags, end tags and texts of blanks, all ASCII, and is one element
+/// of depth at most 64. A tag has at most one attribute, a name at most 64 bytes, and a value, in
+/// `"`, at most 128. Lines are counted from 1. (A profile of XML 1.0.)
 pub fn first_document(alloc: Global, bytes: &[u8]) -> Result<Option<Document>, OutOfMemory>
     ensures grammar { IfOk result (λ found. IfSome found (λ document. IsFirstText bytes.now document.root)) }
     ensures exact { IfOk result (λ found. option_map (λ document. document.root) found ≡ first_root bytes.now) }

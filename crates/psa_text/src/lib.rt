@@ -14,3 +14,6 @@ pub use sqlite_items::Items;
 pub use std::alloc::AllocError as OutOfMemory;
 pub use text::Text;
 pub use tree::{Attribute, Document, Element};
+
+#[cfg(test)]
+mod tests;
