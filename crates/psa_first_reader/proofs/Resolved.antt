@@ -1,6 +1,6 @@
 -- The references of a first model stand, and its depth is bounded: a gate's formula names gates behind
 -- it alone, so the gate at place i of n is within (n - i) * 61 levels, by induction from the last gate.
-use Rattle.std.proofs.Common.{◌≡◌, ℕ, zero, suc, ◌+◌, ◌-◌, ◌*◌, ◌<◌, ◌≤◌, max, Bool, true, false, cond, not, ◌&&◌, nat_le, nat_lt, Option, Some, None, List, [], ◌∷◌, ◌++◌, length, map, refl, sym, ap, ◌∙◌, subst, arith, add-zero, zero-add, sub-one}
+use Rattle.std.proofs.Common.{◌≡◌, ℕ, zero, suc, ◌+◌, ◌*◌, ◌<◌, ◌≤◌, max, Bool, true, false, cond, not, ◌&&◌, ◌||◌, nat_le, nat_lt, Option, Some, None, List, [], ◌∷◌, ◌++◌, length, map, refl, sym, ap, ◌∙◌, subst, arith, add-zero, zero-add, sub-one}
 use Rattle.std.specs.Prelude.{codes}
 use Rattle.std.specs.List.{filter, list_all, slice_get}
 use Rattle.std.specs.Str.{bytes_eq}
@@ -12,19 +12,17 @@ use Rattle.psa_text.specs.declared.tree.Element.TheFolds.{fold_out-Element}
 use Rattle.psa_text.specs.declared.tree.Attribute.{Attribute}
 use Rattle.psa_text.specs.Tree.{depth, depth_step, greatest}
 use Rattle.psa_model.specs.declared.formula.Formula.{Formula}
-use Rattle.psa_model.specs.declared.formula.Formula.TheVariants as formula
 use Rattle.psa_model.specs.declared.formula.Connective.{Connective}
 use Rattle.psa_model.specs.declared.formula.Connective.TheVariants.{And, Or}
 use Rattle.psa_model.specs.declared.model.TheConstants.{MAX_DEPTH}
 use Rattle.psa_model.specs.declared.model.FaultTree.{FaultTree}
 use Rattle.psa_model.specs.declared.model.Gate.{Gate}
-use Rattle.psa_model.specs.declared.model.BasicEvent.{BasicEvent}
 use Rattle.psa_model.specs.declared.model.Model.{Model}
 use Rattle.psa_model.specs.Formulas.{has_arity}
 use Rattle.psa_model.specs.Truth.{within, IsResolved}
 use Rattle.psa_model.proofs.Levels.{and-left, and-right, and-both, within-of-gate, within-basic, within-connective, within-above}
-use Rattle.psa_first_reader.specs.Definitions.{is_empty, is_tag, is_gate, is_basic, is_childless, name_of, element_name, all_some, cons_both, place_from, place_of, are_distinct}
-use Rattle.psa_first_reader.specs.Reading.{◌>>=◌, Names, gate_named, basic_named, connective_of, formula_step, formula_of, place_at, only_formula, gate_of, gates_from, basic_of, plain_model, are_definitions, checked_names, tree_model, fault_tree_model, content_model, first_model}
+use Rattle.psa_first_reader.specs.Definitions.{is_empty, is_tag, is_gate, is_basic, name_of, element_name, all_some, cons_both, place_from, place_of, are_distinct}
+use Rattle.psa_first_reader.specs.Reading.{◌>>=◌, Names, gate_named, basic_named, connective_of, formula_step, formula_of, only_formula, gate_of, gates_from, basic_of, plain_model, are_definitions, checked_names, tree_model, fault_tree_model, content_model, first_model}
 use Rattle.psa_first_reader.proofs.Collected.{length-all_some, length-all_some_map}
 
 -- Chains of steps, taken apart.
@@ -130,11 +128,12 @@ connective_within : (model : Model) (names : Names) (from d m : ℕ) → ((e : E
 connective_within model names from d m below operator arity attributes es f l h =
     with_test (is_empty attributes && not (is_empty (map (formula_of names from) es))) _ f h (λ some h1.
     with_ok (all_some (map (formula_of names from) es)) _ f h1 (λ fs fs_are h2.
+    let positive : 0 < suc m = omega arith in
     let one : nat_le 1 (length fs) ≡ true = some_argument (map (formula_of names from) es) fs (and-right _ _ some) (length-all_some _ fs fs_are) in
     let all : list_all (λ g. within m model g) fs ≡ true = all_within model names from d m below es fs l fs_are in
     subst (λ (g : Formula). within (suc m) model g ≡ true) (some_same _ _ h2)
-    (within-connective (suc m) model operator 0 0 fs (omega arith)
-    ∙ and-both _ _ (arity (length fs) ∙ one) (rw sub-one all))))
+    (within-connective (suc m) model operator 0 0 fs positive
+    ∙ and-both (has_arity operator 0 0 (length fs)) _ (arity (length fs) ∙ one) (rw sub-one all))))
 
 layer_within : (model : Model) (names : Names) (from levels d m : ℕ) → Named model names from levels → levels ≤ m → ((e : Element) (f : Formula) → depth e ≤ d → formula_of names from e ≡ Some f → within m model f ≡ true) → (e : Element) (f : Formula) → greatest (map depth (out-Element e).children) ≤ d → formula_of names from e ≡ Some f → within (suc m) model f ≡ true
 layer_within model names from levels d m named l below e f shallow h =
@@ -245,9 +244,9 @@ tree_resolved tree gates basics model few shallow h =
     (record {
       gates = λ place gate found. gates_resolved whole names gates all (omega arith) place gate found;
       trees = λ place gate found.
-        let at = gates_read names 0 gates all_gates all_gates_are place gate found in
-        let read = gate_read names (0 + place) at.element gate at.read in
-        omega (arith, read.tree);
+          let at = gates_read names 0 gates all_gates all_gates_are place gate found in
+          let read = gate_read names (0 + place) at.element gate at.read in
+          omega (arith, read.tree);
       formulas = λ place formula found. absurd (cc);
     }))))))
   where
@@ -256,7 +255,11 @@ tree_resolved tree gates basics model few shallow h =
     length-gates_from names place (e ∷ es) = ap suc (length-gates_from names (suc place) es)
 
 few_gates : (es : List Element) → are_definitions es ≡ true → length (filter is_gate es) ≤ 8
-few_gates es h = let few : nat_le (length (filter is_gate es)) 8 ≡ true = and-right _ _ (and-left _ _ h) in grind (arith, nat_tests)
+few_gates es h =
+    let few : nat_le (length (filter is_gate es)) 8 ≡ true =
+    and-right (list_all (λ e. is_gate e || is_basic e) es) (nat_le (length (filter is_gate es)) 8)
+    (and-left (list_all (λ e. is_gate e || is_basic e) es && nat_le (length (filter is_gate es)) 8) (nat_le (length (filter is_basic es)) 12) h) in
+    grind (arith, nat_tests)
 
 fault_tree_resolved : (e : Element) (model : Model) → depth e ≤ 63 → fault_tree_model e ≡ Some model → IsResolved model
 fault_tree_resolved e model shallow h =

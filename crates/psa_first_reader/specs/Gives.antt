@@ -2,7 +2,6 @@
 -- memory tells nothing.
 use Rattle.std.specs.Prelude.{◌≡◌, ℕ, List, Option, Some, None, Result, Ok, Err, if◌then◌else◌}
 use Rattle.psa_text.specs.declared.tree.Element.{Element}
-use Rattle.psa_text.specs.declared.tree.Element.TheViews.{out-Element}
 use Rattle.psa_first_reader.specs.declared.error.ReadError.{ReadError}
 use Rattle.psa_first_reader.specs.declared.error.ReadError.TheVariants.{Refused, Memory}
 use Rattle.psa_first_reader.specs.declared.names.Names.{Names}

@@ -14,12 +14,14 @@ const MAX_GATES: usize = 8;
 /// The most basic events of a first model.
 const MAX_BASICS: usize = 12;
 
+/// Whether an element defines a gate.
 pub fn is_gate(element: &Element) -> bool
     ensures { result ≡ definitions.is_gate element.now }
 {
     element.tag.as_str() == "define-gate"
 }
 
+/// Whether an element defines a basic event.
 pub fn is_basic(element: &Element) -> bool
     ensures { result ≡ definitions.is_basic element.now }
 {
@@ -30,14 +32,19 @@ pub fn is_basic(element: &Element) -> bool
 fn count_of(elements: &[Element], tag: &str) -> usize
     ensures { result ≡ length (filter (definitions.is_tag tag.now) elements.now) }
 {
-    elements.iter().filter(|element| element.tag.as_str() == tag).count()
+    elements
+        .iter()
+        .filter(|element| element.tag.as_str() == tag)
+        .count()
 }
 
 /// Whether each is a definition of a gate or a basic event.
 fn are_known(elements: &[Element]) -> bool
-    ensures { result ≡ list_all (λ element. definitions.is_gate element || definitions.is_basic element) elements.now }
+    ensures { result ≡ list_all (λ e. definitions.is_gate e || definitions.is_basic e) elements.now }
 {
-    elements.iter().all(|element| is_gate(element) || is_basic(element))
+    elements
+        .iter()
+        .all(|element| is_gate(element) || is_basic(element))
 }
 
 /// Whether all are definitions of gates or basic events, of each kind not too many.
@@ -61,6 +68,7 @@ pub fn name_of(attributes: &[Attribute]) -> Result<&str, ReadError>
     }
 }
 
+/// Where an element begins; a first model is one file.
 pub fn place_at(element: &Element) -> Place
     ensures { result ≡ reading.place_at element.now }
 {
@@ -72,7 +80,8 @@ pub fn place_at(element: &Element) -> Place
 
 /// The names of the gates among the elements.
 pub fn gate_names(alloc: Global, elements: &[Element]) -> Result<Items<Text>, ReadError>
-    ensures { Gives (λ names. names) result (definitions.all_some (map definitions.element_name (filter definitions.is_gate elements.now))) }
+    ensures { Gives (λ names. names) result
+        (definitions.all_some (map definitions.element_name (filter definitions.is_gate elements.now))) }
 {
     let mut names = Items::new(alloc);
     for element in elements {
@@ -86,7 +95,8 @@ pub fn gate_names(alloc: Global, elements: &[Element]) -> Result<Items<Text>, Re
 
 /// The basic events among the elements.
 pub fn basic_events(alloc: Global, elements: &[Element]) -> Result<Items<BasicEvent>, ReadError>
-    ensures { Gives (λ basics. basics) result (definitions.all_some (map reading.basic_of (filter definitions.is_basic elements.now))) }
+    ensures { Gives (λ basics. basics) result
+        (definitions.all_some (map reading.basic_of (filter definitions.is_basic elements.now))) }
 {
     let mut basics = Items::new(alloc);
     for element in elements {

@@ -12,7 +12,12 @@ use std::alloc::Global;
 
 /// The formula that an element says, in the gate at place `from`.
 #[cycle(formula)]
-pub fn formula_of(alloc: Global, names: &Names, from: u32, element: &Element) -> Result<Formula, ReadError>
+pub fn formula_of(
+    alloc: Global,
+    names: &Names,
+    from: u32,
+    element: &Element,
+) -> Result<Formula, ReadError>
     requires gates { length names.now.gates < 2 ^ 32 }
     requires basics { length names.now.basics < 2 ^ 32 }
     ensures { Gives (λ formula. formula) result (reading.formula_of (names_of names.now) from element.now) }
@@ -37,7 +42,9 @@ fn connective_of(
 ) -> Result<Formula, ReadError>
     requires gates { length names.now.gates < 2 ^ 32 }
     requires basics { length names.now.basics < 2 ^ 32 }
-    ensures { Gives (λ formula. formula) result (reading.connective_of operator (out-Element element.now).attributes (map (reading.formula_of (names_of names.now) from) (out-Element element.now).children)) }
+    ensures { Gives (λ formula. formula) result
+        (reading.connective_of operator (out-Element element.now).attributes
+        (map (reading.formula_of (names_of names.now) from) (out-Element element.now).children)) }
 {
     if !element.attributes.is_empty() || element.children.is_empty() {
         return Err(ReadError::Refused);

@@ -6,5 +6,7 @@ mod error;
 mod formulas;
 mod model;
 mod names;
+#[cfg(test)]
+mod tests;
 
 pub use model::read_first_model;

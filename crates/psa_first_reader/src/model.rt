@@ -8,7 +8,9 @@ ghost use Rattle.psa_first_reader.specs.Reading as reading;
 ghost use Rattle.psa_first_reader.specs.Reading.{first_model};
 ghost use Rattle.psa_first_reader.specs.Gives.{Gives, names_of};
 
-use crate::definitions::{are_definitions, basic_events, event_names, gate_names, is_gate, name_of, place_at};
+use crate::definitions::{
+    are_definitions, basic_events, event_names, gate_names, is_gate, name_of, place_at,
+};
 use crate::error::ReadError;
 use crate::formulas::formula_of;
 use crate::names::{Names, are_distinct};
@@ -40,7 +42,12 @@ fn document_model(alloc: Global, root: &Element) -> Result<Model, ReadError>
         return Err(ReadError::Refused);
     }
     match root.children.as_slice() {
-        [] => Ok(plain_model(alloc, Items::new(alloc), Items::new(alloc), Items::new(alloc))?),
+        [] => Ok(plain_model(
+            alloc,
+            Items::new(alloc),
+            Items::new(alloc),
+            Items::new(alloc),
+        )?),
         [element] => fault_tree_model(alloc, element),
         _ => Err(ReadError::Refused),
     }
@@ -72,7 +79,9 @@ fn tree_model(
 ) -> Result<Model, ReadError>
     requires gates { length (filter definitions.is_gate elements.now) ≤ 8 }
     requires basics { length (filter definitions.is_basic elements.now) ≤ 12 }
-    ensures { Gives (λ model. model) result (reading.tree_model trees (filter definitions.is_gate elements.now) (filter definitions.is_basic elements.now)) }
+    ensures { Gives (λ model. model) result
+        (reading.tree_model trees (filter definitions.is_gate elements.now)
+        (filter definitions.is_basic elements.now)) }
 {
     let gate_names = gate_names(alloc, elements)?;
     let basics = basic_events(alloc, elements)?;
@@ -101,7 +110,9 @@ fn gates_of(alloc: Global, names: &Names, elements: &[Element]) -> Result<Items<
     requires gates { length names.now.gates < 2 ^ 32 }
     requires basics { length names.now.basics < 2 ^ 32 }
     requires few { length (filter definitions.is_gate elements.now) < 2 ^ 32 }
-    ensures { Gives (λ gates. gates) result (definitions.all_some (reading.gates_from (names_of names.now) 0 (filter definitions.is_gate elements.now))) }
+    ensures { Gives (λ gates. gates) result
+        (definitions.all_some
+        (reading.gates_from (names_of names.now) 0 (filter definitions.is_gate elements.now))) }
 {
     let mut gates = Items::new(alloc);
     let mut place: u32 = 0;
@@ -139,7 +150,8 @@ fn only_formula(
 ) -> Result<Formula, ReadError>
     requires gates { length names.now.gates < 2 ^ 32 }
     requires basics { length names.now.basics < 2 ^ 32 }
-    ensures { Gives (λ formula. formula) result (reading.only_formula (names_of names.now) from elements.now) }
+    ensures { Gives (λ formula. formula) result
+        (reading.only_formula (names_of names.now) from elements.now) }
 {
     match elements {
         [element] => formula_of(alloc, names, from, element),
