@@ -1,3 +1,6 @@
 pub mod Written
 pub mod Positive
 pub mod Widths
+pub mod Few
+pub mod Sections
+pub mod Outcomes

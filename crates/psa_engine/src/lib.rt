@@ -3,9 +3,12 @@
 
 mod files;
 mod names;
+mod report;
+mod run;
 mod section;
 mod status;
 mod telling;
 mod words;
 
+pub use run::analyse_words;
 pub use status::Status;

@@ -28,13 +28,13 @@ struct Search {
 /// memory is wanting, and for no other reason.
 pub fn minimal_cut_sets<T: Truth>(
     alloc: Global,
-    target: &T,
+    target: &mut T,
     width: u32,
     limit: u8,
 ) -> Result<Items<Items<u32>>, OutOfMemory>
-    requires looks_below { LooksBelow width (T.truth target.now) }
+    requires looks_below { LooksBelow width (T.truth target.old) }
     requires narrow { width ≤ MAX_WIDTH }
-    ensures { IfOk result (λ sets. IsListing (IsCutProduct (T.truth target.now) limit) (map positive_product sets)) }
+    ensures { IfOk result (λ sets. IsListing (IsCutProduct (T.truth target.old) limit) (map positive_product sets)) }
 {
     let mut search = Search {
         chosen: Items::new(alloc),
@@ -51,15 +51,16 @@ pub fn minimal_cut_sets<T: Truth>(
 /// lexicographic order.
 fn try_sets<T: Truth>(
     alloc: Global,
-    target: &T,
+    target: &mut T,
     search: &mut Search,
     from: u32,
     width: u32,
     more: u32,
 ) -> Result<(), OutOfMemory>
     requires { from ≤ width }
-    ensures kept { OnOk result (search.new.kept ≡ kept_of (T.truth target.now) search.old.kept (map (λ set. search.old.chosen ++ set) (combinations from (width - from) more))) }
+    ensures kept { OnOk result (search.new.kept ≡ kept_of (T.truth target.old) search.old.kept (map (λ set. search.old.chosen ++ set) (combinations from (width - from) more))) }
     ensures chosen { OnOk result (search.new.chosen ≡ search.old.chosen) }
+    ensures same { T.truth target.new ≡ T.truth target.old }
 {
     if more == 0 {
         return try_set(alloc, target, search);
@@ -74,9 +75,10 @@ fn try_sets<T: Truth>(
 }
 
 /// Keeps the chosen set where the target is true at it and no kept set is a part of it.
-fn try_set<T: Truth>(alloc: Global, target: &T, search: &mut Search) -> Result<(), OutOfMemory>
-    ensures kept { OnOk result (search.new.kept ≡ kept_with (T.truth target.now) search.old.kept search.old.chosen) }
+fn try_set<T: Truth>(alloc: Global, target: &mut T, search: &mut Search) -> Result<(), OutOfMemory>
+    ensures kept { OnOk result (search.new.kept ≡ kept_with (T.truth target.old) search.old.kept search.old.chosen) }
     ensures chosen { search.new.chosen ≡ search.old.chosen }
+    ensures same { T.truth target.new ≡ T.truth target.old }
 {
     let chosen = search.chosen.as_slice();
     if target.is_true_at(chosen) && !has_part_of(search.kept.as_slice(), chosen) {

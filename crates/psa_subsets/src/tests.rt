@@ -14,7 +14,7 @@ struct TruthTable {
 impl Truth for TruthTable {
     ghost truth = { λ table s. slice_index_or table.values ((if s 0 then 8 else 0) + (if s 1 then 4 else 0) + (if s 2 then 2 else 0) + (if s 3 then 1 else 0)) false };
 
-    fn is_true_at(&self, set: &[u32]) -> bool {
+    fn is_true_at(&mut self, set: &[u32]) -> bool {
         let place = weight(set, 0, 8) + weight(set, 1, 4) + weight(set, 2, 2) + weight(set, 3, 1);
         self.values[place]
     }

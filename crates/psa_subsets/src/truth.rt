@@ -5,7 +5,9 @@ ghost use Rattle.psa_logic.specs.Sets.{occurs};
 pub trait Truth {
     ghost truth: { Self → (ℕ → Bool) → Bool };
 
-    /// Whether the target is true where exactly the events with the ranks of `set` occur.
-    fn is_true_at(&self, set: &[u32]) -> bool
-        ensures { result ≡ truth self.now (occurs set.now) };
+    /// Whether the target is true where exactly the events with the ranks of `set` occur. What was
+    /// worked out may be kept for the next question; the truth stays.
+    fn is_true_at(&mut self, set: &[u32]) -> bool
+        ensures value { result ≡ truth self.old (occurs set.now) }
+        ensures same { truth self.new ≡ truth self.old };
 }

@@ -1,0 +1,124 @@
+-- A first model has few gates and few basic events.
+use Rattle.std.proofs.Common.{◌≡◌, ℕ, suc, ◌+◌, ◌≤◌, ◌^◌, Bool, true, false, cond, ◌&&◌, ◌||◌, nat_le, Option, Some, None, Result, Ok, Err, IfOk, List, [], ◌∷◌, ◌++◌, length, map, refl, sym, ap, ◌∙◌, subst, arith, option_and_then}
+use Rattle.std.specs.Prelude.{codes}
+use Rattle.std.specs.List.{filter, list_all}
+use Rattle.std.proofs.lemmas.Bool.Decides.{nat_tests}
+use Rattle.psa_text.specs.declared.tree.Element.{Element}
+use Rattle.psa_text.specs.declared.tree.Element.TheViews.{out-Element}
+use Rattle.psa_text.specs.Reading.{first_root}
+use Rattle.psa_model.specs.declared.model.FaultTree.{FaultTree}
+use Rattle.psa_model.specs.declared.model.BasicEvent.{BasicEvent}
+use Rattle.psa_model.specs.declared.model.Model.{Model}
+use Rattle.psa_model.specs.declared.expanded.ExpandedEvent.{ExpandedEvent}
+use Rattle.psa_model.proofs.Levels.{and-left, and-right}
+use Rattle.psa_plain.specs.Expansion.{plain_events, events_from}
+use Rattle.psa_first_reader.specs.Definitions.{is_empty, is_tag, is_gate, is_basic, element_name, all_some}
+use Rattle.psa_first_reader.specs.Reading.{◌>>=◌, Names, gates_from, basic_of, are_definitions, checked_names, tree_model, fault_tree_model, content_model, first_model}
+use Rattle.psa_first_reader.proofs.Collected.{length-all_some, length-all_some_map}
+use Rattle.psa_logic.specs.Products.{IsCutProduct, IsListing, positive_product}
+use Rattle.psa_model.specs.declared.expanded.Expanded.{Expanded}
+use Rattle.psa_model.specs.declared.ids.EventNumber.{EventNumber}
+use Rattle.psa_model.specs.declared.settings.Mode.TheVariants.{CutSets}
+use Rattle.psa_model.specs.declared.targets.Target.{Target}
+use Rattle.psa_model.specs.Ranks.{AreRanks}
+use Rattle.psa_model.specs.Report.{IsSection, section_text}
+use Rattle.psa_model.specs.Targets.{truth_by_rank, target_truth}
+use Rattle.psa_plain.proofs.Lists.{by-rank-agree}
+use Rattle.psa_subsets.specs.Blind.{LooksBelow}
+use Rattle.psa_engine.specs.FirstModel.{IsFirst, model_of}
+use Rattle.psa_engine.proofs.Widths.{ranks-fit}
+
+-- Chains of steps, taken apart.
+with_step : {A B P : Type 0} (r : Option A) (f : A → Option B) (y : B) → (r >>= f) ≡ Some y → ((x : A) → r ≡ Some x → f x ≡ Some y → P) → P
+with_step None f y h next = absurd (cc)
+with_step (Some x) f y h next = next x refl h
+
+when_true : {A P : Type 0} (b : Bool) (x : Option A) (y : A) → cond b x None ≡ Some y → (b ≡ true → x ≡ Some y → P) → P
+when_true true x y h next = next refl h
+when_true false x y h next = absurd (cc)
+
+pub record IsSmall (model : Model) : Type 0 where
+  pub gates : length model.gates ≤ 8
+  pub basics : length model.basics ≤ 12
+
+length-gates_from : (names : Names) (place : ℕ) (es : List Element) → length (gates_from names place es) ≡ length es
+length-gates_from names place [] = refl
+length-gates_from names place (e ∷ es) = ap suc (length-gates_from names (suc place) es)
+
+few-definitions : (es : List Element) → are_definitions es ≡ true → (length (filter is_gate es) ≤ 8) × (length (filter is_basic es) ≤ 12)
+few-definitions es h =
+    let known = list_all (λ e. is_gate e || is_basic e) es in
+    let few_gates = nat_le (length (filter is_gate es)) 8 in
+    let few_basics = nat_le (length (filter is_basic es)) 12 in
+    let first : few_gates ≡ true = and-right known few_gates (and-left (known && few_gates) few_basics h) in
+    let second : few_basics ≡ true = and-right (known && few_gates) few_basics h in
+    (grind (arith, nat_tests), grind (arith, nat_tests))
+
+small-tree : (trees : List FaultTree) (gates basics : List Element) (model : Model)
+    → length gates ≤ 8 → length basics ≤ 12 → tree_model trees gates basics ≡ Some model → IsSmall model
+small-tree trees gates basics model few_gates few_basics h =
+    with_step (all_some (map element_name gates)) _ model h (λ gate_names gate_names_are h1.
+    with_step (all_some (map basic_of basics)) _ model h1 (λ events events_are h2.
+    with_step (checked_names gate_names (map (λ basic. basic.name) events)) _ model h2 (λ names names_are h3.
+    with_step (all_some (gates_from names 0 gates)) _ model h3 (λ all_gates all_gates_are h4.
+    let gate_count : length all_gates ≡ length gates = length-all_some _ all_gates all_gates_are ∙ length-gates_from names 0 gates in
+    let event_count : length events ≡ length basics = length-all_some_map basic_of basics events events_are in
+    let same_gates : all_gates ≡ model.gates = cc in
+    let same_basics : events ≡ model.basics = cc in
+    record { gates = omega (arith, ap length same_gates); basics = omega (arith, ap length same_basics) }))))
+
+small-fault_tree : (element : Element) (model : Model) → fault_tree_model element ≡ Some model → IsSmall model
+small-fault_tree element model h =
+    with_step (element_name element) _ model h (λ name name_is h1.
+    when_true (is_tag (codes "define-fault-tree") element && are_definitions (out-Element element).children) _ model h1 (λ both h2.
+    let few = few-definitions (out-Element element).children (and-right (is_tag (codes "define-fault-tree") element) (are_definitions (out-Element element).children) both) in
+    small-tree _ (filter is_gate (out-Element element).children) (filter is_basic (out-Element element).children) model few.0 few.1 h2))
+
+small-content : (elements : List Element) (model : Model) → content_model elements ≡ Some model → IsSmall model
+small-content [] model h =
+    let same_gates : [] ≡ model.gates = cc in
+    let same_basics : [] ≡ model.basics = cc in
+    record { gates = omega (arith, ap length same_gates); basics = omega (arith, ap length same_basics) }
+small-content (element ∷ []) model h = small-fault_tree element model h
+small-content (element ∷ other ∷ elements) model h = absurd (cc)
+
+pub small-model : (root : Element) (model : Model) → first_model root ≡ Some model → IsSmall model
+small-model root model h =
+    when_true (is_tag (codes "opsa-mef") root && is_empty (out-Element root).attributes) _ model h (λ _ h1.
+    small-content (out-Element root).children model h1)
+
+pub length-events_from : (place : ℕ) (basics : List BasicEvent) → length (events_from place basics) ≡ length basics
+length-events_from place [] = refl
+length-events_from place (basic ∷ basics) = ap suc (length-events_from (place + 1) basics)
+
+-- a first model's targets have at most twelve ranks
+pub ranks-few : (expanded : Expanded) (target : Target) (ranks : List EventNumber) → IsFirst expanded → AreRanks expanded target ranks → length ranks ≤ 12
+ranks-few expanded target ranks first are_ranks =
+    let fits : length ranks ≤ length expanded.events = ranks-fit expanded target ranks are_ranks in
+    let events : length expanded.events ≡ length expanded.model.basics = ap length first.plain ∙ length-events_from 0 expanded.model.basics in
+    omega (arith, fits, events, first.few_basics)
+
+-- sets that agree below the number of ranks give the same truth
+pub ranks-decide : (expanded : Expanded) (target : Target) (ranks : List EventNumber) (width : ℕ) (f : (ℕ → Bool) → Bool)
+    → f ≡ truth_by_rank expanded target ranks → width ≡ length ranks → LooksBelow width f
+ranks-decide expanded target ranks width f is_truth is_width =
+    subst (LooksBelow width) (sym is_truth)
+        (λ s t agree. ap (target_truth expanded target) (λ i event. by-rank-agree s t ranks 0 event (λ rank below. agree rank (omega arith)) i))
+
+-- the section of a target over what was found
+pub section-found : (expanded : Expanded) (target : Target) (ranks : List EventNumber) (f : (ℕ → Bool) → Bool) (sets : List (List ℕ)) (text : List ℕ)
+    → AreRanks expanded target ranks → f ≡ truth_by_rank expanded target ranks
+    → IsListing (IsCutProduct f 20) (map positive_product sets)
+    → text ≡ section_text expanded target ranks (map positive_product sets)
+    → IsSection expanded CutSets 20 target text
+section-found expanded target ranks f sets text are_ranks is_truth listing spelled = record {
+  ranks = ranks;
+  products = map positive_product sets;
+  are_ranks = are_ranks;
+  listing = subst (λ (g : (ℕ → Bool) → Bool). IsListing (IsCutProduct g 20) (map positive_product sets)) is_truth listing;
+  spelled = spelled;
+}
+
+pub IfOk-then : {T E : Type 0} (P Q : T → Type 0) (result : Result T E) → ((x : T) → P x → Q x) → IfOk result P → IfOk result Q
+IfOk-then P Q (Ok x) f holds = f x holds
+IfOk-then P Q (Err e) f holds = holds
