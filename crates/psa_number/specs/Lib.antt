@@ -1,2 +1,6 @@
 pub mod Scaled
+pub mod Units
 pub mod Ends
+pub mod Fraction
+pub mod Exponential
+pub mod Operations
