@@ -1,16 +1,19 @@
 -- An interval that is computed brackets the exact number.
-use Rattle.std.proofs.Common.{ℕ, ℤ, pos, negsuc, neg_ℤ, zero, suc, Bool, true, false, Result, Ok, Err, IfOk, ◌≡◌, ◌+◌, ◌*◌, ◌<◌, ◌≤◌, ◌+ℤ◌, ◌-ℤ◌, ◌*ℤ◌, ◌≤ℤ◌, int_lt, int_le, ◌||◌, ◌&&◌, ◌⊎◌, inl, inr, ⊎_elim, ◌<ℤ◌, ◌≢◌, cond, arith, refl, ap, ap₂, ◌∙◌, subst}
+use Rattle.std.proofs.Common.{◌^◌, ◌/◌, sym, ℕ, ℤ, pos, negsuc, neg_ℤ, zero, suc, Bool, true, false, Result, Ok, Err, IfOk, ◌≡◌, ◌+◌, ◌*◌, ◌<◌, ◌≤◌, ◌+ℤ◌, ◌-ℤ◌, ◌*ℤ◌, ◌≤ℤ◌, int_lt, int_le, ◌||◌, ◌&&◌, ◌⊎◌, inl, inr, ⊎_elim, ◌<ℤ◌, ◌≢◌, cond, arith, refl, ap, ap₂, ◌∙◌, subst}
 use Rattle.std.specs.Int.{int_min, int_max, int_div_euclid}
 use Rattle.std.proofs.lemmas.Int.{ints, clamps}
-use Rattle.std.proofs.lemmas.Nat.{mul-le}
-use Rattle.std.proofs.Math.Nat.{mul-le-mul_right, mul-le-mul_left, le_of_mul-le-mul_right}
+use Rattle.std.proofs.lemmas.Nat.{mul-le, pow-add}
+use Rattle.std.specs.Int.{div_ceil}
+use Rattle.std.proofs.Math.Nat.{mul-le-mul_right, mul-le-mul_left, le_of_mul-le-mul_right, one-le-pow, div-mul-le_self}
 use borrow.Author.Differences.{up, down, le_out, at_most_in, same_in, product_is, sum_is_lem, neg_is, le-false, below_in, same_out}
 use Rattle.psa_number.specs.declared.fault.NumberFault.{NumberFault}
 use Rattle.psa_number.specs.declared.fault.NumberFault.TheVariants.{TooLarge, ZeroDivisor, Negative}
 use Rattle.psa_number.specs.Units.{units, floor_units, ceil_units, least, greatest}
 use Rattle.psa_number.specs.Ends.{Ends}
-use Rattle.psa_number.specs.Operations.{limited, is_limited, sum_ends, difference_ends, product_ends, exponential_of, IsInUnit, has_zero, floor_quotient, ceil_quotient, quotient_below, quotient_above, quotient_ends, quotient_of, unit_ends, unit_sum_ends, unit_product_ends, complement_ends}
-use Rattle.psa_number.specs.Fraction.{Fraction, Holds, plus, difference, times, over, quotient, held_in_unit, at_most_one, one_minus, exponential_at}
+use Rattle.psa_number.specs.Scaled.{Scaled}
+use Rattle.std.proofs.lemmas.Grind.{div_ceil_times}
+use Rattle.psa_number.specs.Operations.{limited, is_limited, sum_ends, difference_ends, product_ends, exponential_of, IsInUnit, has_zero, floor_quotient, ceil_quotient, quotient_below, quotient_above, quotient_ends, quotient_of, negative_ends, positive_ends, decimal_ends, unit_ends, unit_sum_ends, unit_product_ends, complement_ends}
+use Rattle.psa_number.specs.Fraction.{Fraction, Holds, plus, difference, times, over, quotient, held_in_unit, at_most_one, one_minus, magnitude, fraction_of, minus, exponential_at}
 use Rattle.psa_number.specs.Exponential.{raised, numerator, denominator, last_term, lower_end_at, upper_end_at}
 use Rattle.psa_number.proofs.Sums.{lower_end_brackets, upper_end_brackets, numerator_some}
 use Rattle.psa_number.proofs.Signed.{parts_out, parts_in, raised_low, raised_high, times_up, between_low, between_high, by_up, IsLeast, IsGreatest, le_then, floor_over, floor_below, ceil_above, least_within, greatest_within, min_keeps, max_keeps}
@@ -409,3 +412,51 @@ exponential_case P r e false is h = let same : e ≡ r = cc in subst P same h
 pub held_if_exponential : (P : Ends → Type 0) (rate time r : Ends) → Ok r ≡ exponential_of rate time
     → P (record { lo = pos (lower_end_at (raised rate.lo * raised time.lo)); hi = pos (upper_end_at (raised rate.hi * raised time.hi)) }) → P r
 held_if_exponential P rate time r is h = exponential_case P r (record { lo = pos (lower_end_at (raised rate.lo * raised time.lo)); hi = pos (upper_end_at (raised rate.hi * raised time.hi)) }) (int_lt rate.hi (pos 0) || int_lt time.hi (pos 0)) is h
+
+-- ---- decimals
+pub negative_held : (a : Ends) (x : Fraction) → Holds a x → Holds (negative_ends a) (minus x)
+negative_held a x h = record {
+  positive = h.positive;
+  low = negative_low a.hi x.num x.den h.high;
+  high = negative_high a.lo x.num x.den h.low;
+}
+
+power_sum : (i j k : ℕ) → i + j ≡ k → 10 ^ k ≡ 10 ^ i * 10 ^ j
+power_sum i j k e = ap (λ (n : ℕ). 10 ^ n) (sym e) ∙ pow-add 10 i j
+
+ten_some : (k : ℕ) → 0 < 10 ^ k
+ten_some k = let ten : 0 < 10 = omega arith in omega (arith, one-le-pow k 10 ten)
+
+pub magnitude_held : (digits : ℕ) (e s : ℤ) → s ≡ (e +ℤ pos 12) → Holds (positive_ends digits s) (magnitude digits e)
+magnitude_held digits (pos high) (pos k) is =
+    let all = ap (λ (t : ℕ). digits * t) (power_sum high 12 k (omega (arith, ints))) in
+    record {
+      positive = omega arith;
+      low = parts_in (pos (digits * 10 ^ k)) (pos (digits * 10 ^ high)) 1 units (omega (arith, all));
+      high = parts_in (pos (digits * 10 ^ high)) (pos (digits * 10 ^ k)) units 1 (omega (arith, all));
+    }
+magnitude_held digits (pos high) (negsuc k) is = absurd (omega (arith, ints))
+magnitude_held digits (negsuc down) (pos k) is =
+    let all = ap (λ (t : ℕ). digits * t) (power_sum k (suc down) 12 (omega (arith, ints))) in
+    record {
+      positive = ten_some (suc down);
+      low = parts_in (pos (digits * 10 ^ k)) (pos digits) (10 ^ suc down) units (omega (arith, all));
+      high = parts_in (pos digits) (pos (digits * 10 ^ k)) units (10 ^ suc down) (omega (arith, all));
+    }
+magnitude_held digits (negsuc down) (negsuc k) is =
+    let below : digits / 10 ^ suc k * 10 ^ suc k ≤ digits = div-mul-le_self digits (10 ^ suc k) in
+    let above : digits ≤ div_ceil digits (10 ^ suc k) * 10 ^ suc k = (div_ceil_times digits (10 ^ suc k) (ten_some (suc k))).0 in
+    let low_all = ap (λ (t : ℕ). digits / 10 ^ suc k * t) (power_sum (suc k) 12 (suc down) (omega (arith, ints))) in
+    let high_all = ap (λ (t : ℕ). div_ceil digits (10 ^ suc k) * t) (power_sum (suc k) 12 (suc down) (omega (arith, ints))) in
+    record {
+      positive = ten_some (suc down);
+      low = parts_in (pos (digits / 10 ^ suc k)) (pos digits) (10 ^ suc down) units (omega (arith, below, low_all));
+      high = parts_in (pos digits) (pos (div_ceil digits (10 ^ suc k))) units (10 ^ suc down) (omega (arith, above, high_all));
+    }
+
+decimal_case : (digits : ℕ) (e : ℤ) (t : Bool) → Holds (cond t (negative_ends (positive_ends digits (e +ℤ pos 12))) (positive_ends digits (e +ℤ pos 12))) (cond t (minus (magnitude digits e)) (magnitude digits e))
+decimal_case digits e true = negative_held (positive_ends digits (e +ℤ pos 12)) (magnitude digits e) (magnitude_held digits e (e +ℤ pos 12) refl)
+decimal_case digits e false = magnitude_held digits e (e +ℤ pos 12) refl
+
+pub decimal_held : (d : Scaled) → Holds (decimal_ends d) (fraction_of d)
+decimal_held d = decimal_case d.digits d.exponent d.negative

@@ -1,3 +1,5 @@
-pub mod Sums
-pub mod Signed
+pub mod Digits
 pub mod Held
+pub mod Printed
+pub mod Signed
+pub mod Sums

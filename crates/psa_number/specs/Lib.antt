@@ -4,3 +4,4 @@ pub mod Ends
 pub mod Fraction
 pub mod Exponential
 pub mod Operations
+pub mod DecimalText

@@ -1,10 +1,11 @@
 -- What each operation on intervals answers, in units of 10^-12, rounded outwards. This project's own.
-use Rattle.std.specs.Prelude.{ℤ, pos, negsuc, neg_ℤ, suc, unsigned_abs, Bool, Result, Ok, Err, int_lt, int_le, nat_le, ◌&&◌, ◌||◌, ◌*◌, ◌^◌, ◌+ℤ◌, ◌-ℤ◌, ◌*ℤ◌, ◌≤ℤ◌, if◌then◌else◌}
-use Rattle.std.specs.Int.{int_div_euclid, int_min, int_max}
+use Rattle.std.specs.Prelude.{ℕ, ℤ, pos, negsuc, neg_ℤ, suc, unsigned_abs, Bool, Result, Ok, Err, int_lt, int_le, nat_le, ◌&&◌, ◌||◌, ◌*◌, ◌/◌, ◌^◌, ◌+ℤ◌, ◌-ℤ◌, ◌*ℤ◌, ◌≤ℤ◌, if◌then◌else◌}
+use Rattle.std.specs.Int.{int_div_euclid, int_min, int_max, div_ceil}
 use Rattle.psa_number.specs.declared.fault.NumberFault.{NumberFault}
 use Rattle.psa_number.specs.declared.fault.NumberFault.TheVariants.{TooLarge, ZeroDivisor, Negative}
 use Rattle.psa_number.specs.Units.{units, floor_units, ceil_units, least, greatest}
 use Rattle.psa_number.specs.Ends.{Ends}
+use Rattle.psa_number.specs.Scaled.{Scaled}
 use Rattle.psa_number.specs.Exponential.{raised, lower_end_at, upper_end_at}
 
 -- neither end is past 10^18 units in magnitude
@@ -92,3 +93,19 @@ unit_sum_ends a b = record { lo = int_min (pos units) (a.lo +ℤ b.lo); hi = int
 -- 1 less the interval
 abbrev pub complement_ends : Ends → Ends
 complement_ends a = record { lo = pos units -ℤ a.hi; hi = pos units -ℤ a.lo }
+
+-- the floor and the ceiling of the magnitude digits * 10 ^ exponent, in units of 10^-12, where scale is exponent + 12
+abbrev pub magnitude_below : ℕ → ℤ → ℕ
+magnitude_below digits (pos up) = digits * 10 ^ up
+magnitude_below digits (negsuc down) = digits / 10 ^ suc down
+
+abbrev pub magnitude_above : ℕ → ℤ → ℕ
+magnitude_above digits (pos up) = digits * 10 ^ up
+magnitude_above digits (negsuc down) = div_ceil digits (10 ^ suc down)
+
+-- from the floor to the ceiling of a decimal, in units
+abbrev pub positive_ends : ℕ → ℤ → Ends
+positive_ends digits scale = record { lo = pos (magnitude_below digits scale); hi = pos (magnitude_above digits scale) }
+
+abbrev pub decimal_ends : Scaled → Ends
+decimal_ends d = if d.negative then negative_ends (positive_ends d.digits (d.exponent +ℤ pos 12)) else positive_ends d.digits (d.exponent +ℤ pos 12)
