@@ -1,9 +1,9 @@
 -- Digits, places and powers of ten.
 use Rattle.std.proofs.lemmas.Int.{ints}
-use Rattle.std.proofs.Common.{Err, int_lt, ◌||◌, length-append, lt-ltb, le-ltb, ap₂, min, unsigned_abs, ◌+ℤ◌, ◌≤ℤ◌, ℤ, pos, negsuc, ◌-ℤ◌, ◌<ℤ◌, ℕ, zero, suc, ◌≡◌, ◌+◌, ◌-◌, ◌*◌, ◌/◌, ◌%◌, ◌^◌, ◌<◌, ◌≤◌, Bool, true, false, cond, not, List, [], ◌∷◌, ◌++◌, length, take, get_or, Option, Some, None, unwrap_or, nat_lt, nat_le, ◌==◌, ◌&&◌, ◌⊎◌, ⊎_elim, inl, inr, refl, ap, sym, ◌∙◌, arith, le_refl, leb-true, le-leb, ltb-false, leb-false, ne_eqb, ◌≢◌}
+use Rattle.std.proofs.Common.{Err, int_lt, ◌||◌, length-append, lt-ltb, le-ltb, ap₂, min, unsigned_abs, ◌+ℤ◌, ◌≤ℤ◌, ℤ, pos, negsuc, ◌-ℤ◌, ◌<ℤ◌, ℕ, zero, suc, ◌≡◌, ◌+◌, ◌-◌, ◌*◌, ◌/◌, ◌^◌, ◌<◌, ◌≤◌, Bool, true, false, cond, not, List, [], ◌∷◌, ◌++◌, length, take, get_or, Option, Some, None, unwrap_or, nat_lt, nat_le, ◌==◌, ◌&&◌, ⊎_elim, refl, ap, sym, ◌∙◌, arith, le_refl, leb-true, le-leb, ltb-false, leb-false, ne_eqb, ◌≢◌}
 use Rattle.std.specs.List.{position, position_or_len, before_first, after_first}
 use Rattle.std.specs.Char.{digit_value, is_ascii_digit}
-use Rattle.std.specs.Str.Parse.{digits_value_after, digits_value, starts_with_minus, without_leading_sign}
+use Rattle.std.specs.Str.Parse.{digits_value_after, starts_with_minus, without_leading_sign}
 use Rattle.std.proofs.lemmas.List.{take_more}
 use Rattle.std.proofs.lemmas.List.Sums.{prefix_len-le-length}
 use Rattle.std.proofs.lemmas.List.Folds.{list_all_at, list_all-append}
@@ -20,7 +20,6 @@ use Rattle.psa_number.specs.Scaled.{IsWithin}
 use Rattle.psa_number.specs.Operations.{magnitude_below, magnitude_above}
 use Rattle.psa_number.proofs.Sums.{floor_below_ceil, ceil_at_most}
 use Rattle.psa_number.specs.DecimalText.{are_digits, is_within, number_of, scaled_of, decimal_of, unsigned_of, with_exponent, is_mantissa, exponent_part, whole_part, fraction_part, is_mark, is_point}
-use Rattle.psa_number.specs.declared.fault.NumberFault.{NumberFault}
 use Rattle.psa_number.specs.declared.fault.NumberFault.TheVariants.{TooManyDigits, NotDecimal}
 
 -- ---- the first place that passes

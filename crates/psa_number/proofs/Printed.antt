@@ -1,5 +1,5 @@
 -- The text of a number of units.
-use Rattle.std.proofs.Common.{rules, cond, int_lt, unsigned_abs, ne_eqb, ◌==◌, ◌≢◌, ℕ, ℤ, pos, negsuc, zero, suc, ◌≡◌, ◌+◌, ◌-◌, ◌*◌, ◌/◌, ◌%◌, ◌^◌, ◌<◌, ◌≤◌, ◌-ℤ◌, Bool, true, false, not, ◌&&◌, List, [], ◌∷◌, ◌++◌, length, take, drop, Some, Ok, nat_lt, refl, ap, ap₂, sym, ◌∙◌, arith, append_assoc, append-nil, length-append, le-ltb, le-leb}
+use Rattle.std.proofs.Common.{rules, cond, int_lt, unsigned_abs, ne_eqb, ◌==◌, ℕ, ℤ, pos, negsuc, zero, suc, ◌≡◌, ◌+◌, ◌-◌, ◌*◌, ◌/◌, ◌%◌, ◌^◌, ◌<◌, ◌≤◌, ◌-ℤ◌, Bool, true, false, not, ◌&&◌, List, [], ◌∷◌, ◌++◌, length, take, drop, Some, Ok, nat_lt, refl, ap, ap₂, sym, ◌∙◌, arith, append_assoc, append-nil, length-append, le-ltb, le-leb}
 use Rattle.std.specs.List.{list_all, prefix_len, position_or_len, before_first, after_first}
 use Rattle.std.specs.Char.{is_ascii_digit, digit_value}
 use Rattle.std.specs.Str.Parse.{digits_value_after, digits_value, starts_with_minus, without_leading_sign}

@@ -1,8 +1,7 @@
 -- The text of a decimal number, as an attribute of the Open-PSA format spells one: an optional sign, digits with at
 -- most one point, and optionally e or E, a sign and one to four digits. The limits are this project's own.
-use Rattle.std.specs.Prelude.{ℕ, ℤ, pos, negsuc, neg_ℤ, zero, suc, Bool, List, [], ◌∷◌, ◌++◌, Option, Some, None, Result, Ok, Err, length, is_some, not, int_lt, nat_lt, nat_le, unsigned_abs, ◌==◌, ◌&&◌, ◌||◌, ◌+◌, ◌-◌, ◌*◌, ◌/◌, ◌%◌, ◌^◌, ◌-ℤ◌, if◌then◌else◌}
+use Rattle.std.specs.Prelude.{ℕ, ℤ, pos, negsuc, zero, suc, Bool, List, [], ◌∷◌, ◌++◌, Option, Some, None, Result, Ok, Err, length, is_some, int_lt, nat_lt, nat_le, unsigned_abs, ◌==◌, ◌&&◌, ◌||◌, ◌+◌, ◌*◌, ◌/◌, ◌%◌, ◌^◌, ◌-ℤ◌, if◌then◌else◌}
 use Rattle.std.specs.List.{before_first, after_first, position, list_all}
-use Rattle.std.specs.Option.{option_map}
 use Rattle.std.specs.Char.{is_ascii_digit}
 use Rattle.std.specs.Str.Parse.{starts_with_minus, without_leading_sign, digits_value, signed_digits_value}
 use Rattle.std.specs.Fmt.{decimal}
@@ -15,6 +14,7 @@ use Rattle.psa_number.specs.Scaled.{Scaled}
 abbrev pub is_mark : ℕ → Bool
 is_mark c = (c == 101) || (c == 69)
 
+-- the decimal point
 abbrev pub is_point : ℕ → Bool
 is_point c = c == 46
 
@@ -38,14 +38,16 @@ whole_part text = before_first is_point (before_first is_mark text)
 abbrev pub fraction_part : List ℕ → List ℕ
 fraction_part text = after_first is_point (before_first is_mark text)
 
--- the number that whole and fraction digits and an exponent spell, and its refusals in their order
+-- the magnitude digits * 10 ^ exponent is at most the limit
 abbrev pub is_within : ℕ → ℕ → ℤ → Bool
 is_within limit digits (pos up) = nat_le (digits * 10 ^ up) limit
 is_within limit digits (negsuc down) = nat_le digits (limit * 10 ^ suc down)
 
+-- the decimal of these parts, refused where its magnitude is past a million
 abbrev pub scaled_of : Bool → ℕ → ℤ → Result Scaled NumberFault
 scaled_of negative digits exponent = if is_within (10 ^ 6) digits exponent then Ok (record { negative = negative; digits = digits; exponent = exponent }) else Err TooLarge
 
+-- the number that the digits before and after the point and the exponent spell; too many digits are refused first
 abbrev pub number_of : Bool → List ℕ → List ℕ → ℤ → Result Scaled NumberFault
 number_of negative whole fraction exponent =
     if nat_lt 36 (length (whole ++ fraction)) || int_lt exponent (negsuc 98) || int_lt (pos 99) exponent then Err TooManyDigits
@@ -55,10 +57,12 @@ number_of negative whole fraction exponent =
 abbrev pub is_mantissa : List ℕ → List ℕ → Bool
 is_mantissa whole fraction = are_digits (whole ++ fraction) && nat_lt 0 (length (whole ++ fraction))
 
+-- the same, where the exponent is spelled right
 abbrev pub with_exponent : Bool → List ℕ → List ℕ → Option ℤ → Result Scaled NumberFault
 with_exponent negative whole fraction None = Err NotDecimal
 with_exponent negative whole fraction (Some exponent) = number_of negative whole fraction exponent
 
+-- what the text after the sign reads as
 abbrev pub unsigned_of : Bool → List ℕ → Result Scaled NumberFault
 unsigned_of negative text =
     if is_mantissa (whole_part text) (fraction_part text) then with_exponent negative (whole_part text) (fraction_part text) (exponent_part text) else Err NotDecimal

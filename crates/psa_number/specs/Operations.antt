@@ -16,6 +16,7 @@ is_limited e = nat_le (unsigned_abs e.lo) (10 ^ 18) && nat_le (unsigned_abs e.hi
 abbrev pub limited : Ends → Result Ends NumberFault
 limited e = if is_limited e then Ok e else Err TooLarge
 
+-- the ends of the negated numbers, of the sums and of the differences
 abbrev pub negative_ends : Ends → Ends
 negative_ends a = record { lo = neg_ℤ a.hi; hi = neg_ℤ a.lo }
 
@@ -60,6 +61,7 @@ quotient_ends a b = record {
 abbrev pub has_zero : Ends → Bool
 has_zero a = int_le a.lo (pos 0) && int_le (pos 0) a.hi
 
+-- the quotients, refused first where the divisor may be 0
 abbrev pub quotient_of : Ends → Ends → Result Ends NumberFault
 quotient_of a b = if has_zero b then Err ZeroDivisor else limited (quotient_ends a b)
 
@@ -74,6 +76,7 @@ exponential_of rate time = if int_lt rate.hi (pos 0) || int_lt time.hi (pos 0) t
 abbrev pub held_to_unit : ℤ → ℤ
 held_to_unit z = int_max (pos 0) (int_min (pos units) z)
 
+-- the interval with both ends held to 0 and 1
 abbrev pub unit_ends : Ends → Ends
 unit_ends a = record { lo = held_to_unit a.lo; hi = held_to_unit a.hi }
 

@@ -1,4 +1,4 @@
-use Rattle.std.proofs.Common.{ℕ, List, Bool, true, ◌≡◌, ◌+◌, ◌<◌, length, take, drop, ap, ◌∙◌, SFits, w16, rules, arith}
+use Rattle.std.proofs.Common.{ℕ, List, true, ◌≡◌, ◌+◌, ◌<◌, length, take, drop, ap, ◌∙◌, SFits, w16, rules, arith}
 use Rattle.std.proofs.lemmas.Int.{to_z-of_z}
 use Rattle.std.specs.List.{before_first, after_first}
 use Rattle.psa_number.specs.DecimalText.{are_digits, is_mark, is_point, number_of}

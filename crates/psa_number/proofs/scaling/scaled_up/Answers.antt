@@ -1,4 +1,4 @@
-use Rattle.std.proofs.Common.{ℕ, ◌≡◌, ◌<◌, ◌*◌, ◌^◌, ◌≤◌, pos, arith}
+use Rattle.std.proofs.Common.{◌≡◌, ◌<◌, pos, arith}
 use Rattle.std.proofs.lemmas.Int.{ints}
 use Rattle.psa_number.proofs.Digits.{scaled_value, scaled_small, power_within, zero_scaled}
 use Rattle.psa_number.proofs.scaling.scaled_up.Goals as goal
