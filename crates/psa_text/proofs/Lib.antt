@@ -1,0 +1,3 @@
+mod ScannerSteps
+mod ScannerCloses
+mod ScannerRuns
