@@ -1,3 +1,10 @@
+mod ScannerBytes
 mod ScannerSteps
 mod ScannerCloses
 mod ScannerRuns
+mod ScannerTrees
+mod ScannerReadings
+mod ScannerFaults
+mod ScannerScans
+mod ScannerEnds
+mod ScannerFeeds

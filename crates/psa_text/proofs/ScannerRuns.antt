@@ -30,7 +30,7 @@ then_run p q b bs n e h = ap (onward bs) e ∙ h
 pub last_run : (p : Lex) (item : Item) (b : ℕ) → next p b ≡ Whole item → run p (b ∷ []) ≡ Whole item
 last_run p item b e = ap (onward []) e
 
-over : (item : Item) (u : List ℕ) (q : Lex) → ended item u ≡ Within q → ⊥
+pub over : (item : Item) (u : List ℕ) (q : Lex) → ended item u ≡ Within q → ⊥
 over item [] q h = cc
 over item (c ∷ u) q h = cc
 
@@ -59,10 +59,10 @@ blank_no_mark b e = (grind (arith, nat_tests, e), grind (arith, nat_tests, e))
 quote_no_blank : (b : ℕ) → is_quote b ≡ true → is_blank b ≡ false
 quote_no_blank b e = grind (arith, nat_tests, e)
 
-quote_no_ampersand : (b : ℕ) → is_quote b ≡ true → (38 == b) ≡ false
+pub quote_no_ampersand : (b : ℕ) → is_quote b ≡ true → (38 == b) ≡ false
 quote_no_ampersand b e = grind (arith, nat_tests, e)
 
-digit_no_x : (b : ℕ) → is_digit_of 10 b ≡ true → (b == 120) ≡ false
+pub digit_no_x : (b : ℕ) → is_digit_of 10 b ≡ true → (b == 120) ≡ false
 digit_no_x b e = grind (arith, nat_tests, e)
 
 doctype_no_end : (b : ℕ) → is_doctype_byte b ≡ true → (b == 62) ≡ false
@@ -71,7 +71,7 @@ doctype_no_end b e = grind (arith, nat_tests, e)
 value_no_quote : (quote b : ℕ) → is_value_byte quote b ≡ true → ((b == quote) ≡ false) × ((b == 38) ≡ false) × ((b == 60) ≡ false)
 value_no_quote quote b e = (grind (arith, nat_tests, e), grind (arith, nat_tests, e), grind (arith, nat_tests, e))
 
-same : (b : ℕ) → (b == b) ≡ true
+pub same : (b : ℕ) → (b == b) ≡ true
 same b = grind (arith, nat_tests)
 
 -- runs of one class
@@ -83,10 +83,10 @@ blanks_run : (p : Lex) → ((b : ℕ) → is_blank b ≡ true → next p b ≡ W
 blanks_run p step [] are = refl
 blanks_run p step (b ∷ bs) are = then_run p p b bs _ (step b are.0) (blanks_run p step bs are.1)
 
-tag_name_run : (n bs : List ℕ) → AllPass is_name_byte bs → run (Name n) bs ≡ Within (Name (n ++ bs))
+pub tag_name_run : (n bs : List ℕ) → AllPass is_name_byte bs → run (Name n) bs ≡ Within (Name (n ++ bs))
 tag_name_run n bs are = names_run Name (λ n b e. rw e refl) n bs are
 
-end_name_run : (n bs : List ℕ) → AllPass is_name_byte bs → run (EndName n) bs ≡ Within (EndName (n ++ bs))
+pub end_name_run : (n bs : List ℕ) → AllPass is_name_byte bs → run (EndName n) bs ≡ Within (EndName (n ++ bs))
 end_name_run n bs are = names_run EndName (λ n b e. rw e refl) n bs are
 
 attribute_name_run : (tag : Tag) (n bs : List ℕ) → AllPass is_name_byte bs → run (AttributeName tag n) bs ≡ Within (AttributeName tag (n ++ bs))
@@ -119,7 +119,7 @@ blanks_ran tag p [] state are = record { state = p; ran = refl; tagged = state }
 blanks_ran tag p (b ∷ bs) state are = record { state = Gap tag; ran = gap_run tag p (b ∷ bs) state (λ h. cc) are; tagged = gap_state tag }
 
 -- references
-digits_run : (base : ℕ) (v : Inside) (count number : ℕ) (digits : List ℕ) → count + length digits ≤ 8 → AllPass (is_digit_of base) digits → run (Refer v (Digits base count number)) digits ≡ Within (Refer (record v { count = v.count + length digits }) (Digits base (count + length digits) (spelled_behind base number digits)))
+pub digits_run : (base : ℕ) (v : Inside) (count number : ℕ) (digits : List ℕ) → count + length digits ≤ 8 → AllPass (is_digit_of base) digits → run (Refer v (Digits base count number)) digits ≡ Within (Refer (record v { count = v.count + length digits }) (Digits base (count + length digits) (spelled_behind base number digits)))
 digits_run base v count number [] fits are = ap (λ k. Within (Refer (record v { count = k }) (Digits base count number))) (omega arith) ∙ ap (λ k. Within (Refer (record v { count = v.count + 0 }) (Digits base k number))) (omega arith)
 digits_run base v count number (d ∷ ds) fits are =
     let t : nat_lt count 8 ≡ true = grind (arith, nat_tests, fits) in

@@ -6,3 +6,7 @@ pub mod TextItems
 pub mod TextTree
 pub mod TextFaults
 pub mod ScannerMachine
+pub mod ScannerView
+pub mod ScannerNesting
+pub mod ScannerBounds
+pub mod ScannerState

@@ -125,7 +125,7 @@ is_long _ = false
 
 -- The byte ends a name or value that isn't UTF-8, or a reference to no character.
 abbrev pub is_bad_reference : Reference → ℕ → Bool
-is_bad_reference (Digits base count number) b = (b == 59) && not (is_character number)
+is_bad_reference (Digits base count number) b = ((b == 59) && nat_lt 0 count) && not (is_character number)
 is_bad_reference _ b = false
 
 abbrev pub is_bad_end : Lex → ℕ → Bool
@@ -135,3 +135,13 @@ is_bad_end (AttributeName tag a) b = not (is_name_byte b) && not (is_utf8 a)
 is_bad_end (Value v) b = (b == v.quote) && not (is_utf8 (trimmed v.value))
 is_bad_end (Refer v r) b = is_bad_reference r b
 is_bad_end _ b = false
+
+-- The byte begins the name of a start or empty tag.
+abbrev pub begins_tag : Lex → ℕ → Bool
+begins_tag Opened b = is_name_start b
+begins_tag _ b = false
+
+-- no item is under way
+abbrev pub is_between : Lex → Bool
+is_between Between = true
+is_between _ = false

@@ -1,6 +1,6 @@
 -- The bytes of a text and their classes. (XML 1.0, productions 3 to 5, 25, 66 and 68; that a byte of 128 or more may
 -- stand anywhere in a name, and the greatest numbers of digits, are this project's own.)
-use Rattle.std.specs.Prelude.{◌≡◌, ℕ, ◌+◌, ◌*◌, ◌-◌, Bool, true, false, if◌then◌else◌, not, ◌&&◌, ◌||◌, ◌==◌, nat_le, nat_lt, List, [], ◌∷◌, ◌++◌, reverse, count_by, codes}
+use Rattle.std.specs.Prelude.{◌≡◌, ℕ, ◌+◌, ◌*◌, ◌-◌, Bool, true, false, if◌then◌else◌, not, ◌&&◌, ◌||◌, ◌==◌, nat_le, nat_lt, List, [], ◌∷◌, ◌++◌, reverse, count_by, Option, Some, None, ◌<◌}
 use Rattle.std.specs.List.{fold}
 
 -- each passes the test
@@ -50,9 +50,12 @@ abbrev pub trimmed_front : List ℕ → List ℕ
 trimmed_front [] = []
 trimmed_front (b ∷ bs) = if b == 32 then trimmed_front bs else b ∷ bs
 
--- without the spaces at both ends
+-- without the spaces at the end, and at both ends
+abbrev pub trimmed_end : List ℕ → List ℕ
+trimmed_end bytes = reverse (trimmed_front (reverse bytes))
+
 abbrev pub trimmed : List ℕ → List ℕ
-trimmed bytes = reverse (trimmed_front (reverse (trimmed_front bytes)))
+trimmed bytes = trimmed_end (trimmed_front bytes)
 
 -- a digit of a base of 10 or 16, and its value
 abbrev pub is_digit_of : ℕ → ℕ → Bool
@@ -60,6 +63,11 @@ is_digit_of base b = is_digit b || ((base == 16) && ((nat_le 97 b && nat_le b 10
 
 abbrev pub digit_of : ℕ → ℕ
 digit_of b = if nat_le b 57 then b - 48 else if nat_le b 70 then b - 55 else b - 87
+
+-- the value of a digit, or no digit of the base
+abbrev pub IsDigitValue : ℕ → ℕ → Option ℕ → Type 0
+IsDigitValue base b (Some value) = (is_digit_of base b ≡ true) × (value ≡ digit_of b) × (value < base)
+IsDigitValue base b None = is_digit_of base b ≡ false
 
 -- the number that digits spell in a base, behind those of a number
 abbrev pub spelled_behind : ℕ → ℕ → List ℕ → ℕ

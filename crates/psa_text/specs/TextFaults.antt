@@ -69,18 +69,19 @@ pub data IsBadEnd : List ℕ → ℕ → Type 0 where
   bad_value : (head : List ℕ) (tag : Tag) (quote : ℕ) (name opening raw value : List ℕ) → IsHead head tag → IsOpening quote name opening → IsRaw quote raw value → is_utf8 (trimmed value) ≡ false → IsBadEnd (head ++ (opening ++ raw)) quote
   bad_reference : (head : List ℕ) (tag : Tag) (quote : ℕ) (name opening raw value part reference : List ℕ) (code b : ℕ) → IsHead head tag → IsOpening quote name opening → IsRaw quote raw value → IsReference reference code → is_character code ≡ false → part ++ (b ∷ []) ≡ head ++ (opening ++ (raw ++ reference)) → IsBadEnd part b
 
-abbrev pub is_element_tag : Placed → Bool
-is_element_tag (Start tag, line) = true
-is_element_tag (Empty tag, line) = true
-is_element_tag (End name, line) = false
-is_element_tag (Doctype, line) = false
-is_element_tag (Text b, line) = false
-is_element_tag (Comment, line) = false
-is_element_tag (Instruction, line) = false
+-- a start or empty tag
+abbrev pub begins_element : Item → Bool
+begins_element (Start tag) = true
+begins_element (Empty tag) = true
+begins_element (End name) = false
+begins_element Doctype = false
+begins_element (Text b) = false
+begins_element Comment = false
+begins_element Instruction = false
 
 -- how many elements have begun
 abbrev pub element_count : List Placed → ℕ
-element_count items = count_by is_element_tag items
+element_count items = count_by (λ placed. begins_element placed.0) items
 
 abbrev pub fault : TextKind → ℕ → TextFault
 fault kind line = record { kind = kind; line = line }

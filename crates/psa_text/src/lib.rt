@@ -2,14 +2,24 @@
 #![tactic(auto)]
 
 mod builder;
+mod scanner;
+mod scanner_bytes;
 mod scanner_error;
 mod scanner_item;
+mod scanner_lexer;
+mod scanner_mark;
+mod scanner_place;
+mod scanner_state;
 mod text;
 mod token;
 mod tree;
 
 pub use scanner_error::{TextError, TextFault, TextKind};
+pub use scanner_state::Scanner;
 pub use sqlite_items::Items;
 pub use std::alloc::AllocError as OutOfMemory;
 pub use text::Text;
 pub use tree::{Attribute, Document, Element};
+
+#[cfg(test)]
+mod scanner_tests;

@@ -1,3 +1,6 @@
+ghost use Rattle.std.specs.Prelude.{◌≡◌};
+ghost use Rattle.psa_text.specs.TextFaults as faults;
+
 use crate::Text;
 use crate::token::Tag;
 
@@ -18,4 +21,13 @@ pub enum Item {
     Comment,
     /// A processing instruction, or the XML declaration.
     Instruction,
+}
+
+impl Item {
+    /// Whether it is a start or an empty tag.
+    pub fn begins_element(&self) -> bool
+        ensures { result ≡ faults.begins_element self.now }
+    {
+        matches!(self, Item::Start(_) | Item::Empty(_))
+    }
 }
