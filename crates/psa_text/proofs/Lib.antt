@@ -8,3 +8,4 @@ mod ScannerFaults
 mod ScannerScans
 mod ScannerEnds
 mod ScannerFeeds
+mod ScannerQuiets

@@ -53,7 +53,7 @@ closes_hexadecimal v count number false t w r =
     let small : nat_lt count 8 ≡ true = grind (arith, nat_tests, t) in
     let some : nat_lt 0 (count + 1) ≡ true = grind (arith, nat_tests) in
     via (Refer v (Digits 16 count number)) w 48 (Refer (counted v) (Digits 16 (count + 1) (16 * number + digit_of 48))) (rw small refl)
-      (λ u q. via (Refer (counted v) (Digits 16 (count + 1) (16 * number + digit_of 48))) u 59 (Value (with_bytes (counted v) (encode_utf8 (16 * number + digit_of 48)))) (rw some refl) (closes_value (with_bytes (counted v) (encode_utf8 (16 * number + digit_of 48)))) q) r
+    (λ u q. via (Refer (counted v) (Digits 16 (count + 1) (16 * number + digit_of 48))) u 59 (Value (with_bytes (counted v) (encode_utf8 (16 * number + digit_of 48)))) (rw some refl) (closes_value (with_bytes (counted v) (encode_utf8 (16 * number + digit_of 48)))) q) r
 
 digits_some : (digits : List ℕ) (count : ℕ) → digits ≢ [] → count ≡ length digits → 0 < count
 digits_some [] count some is = absurd (some refl)

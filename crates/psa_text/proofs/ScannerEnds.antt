@@ -65,9 +65,9 @@ end_outcome h s e =
     let f = all.fits in
     let r = f.reading in
     subst (λ u. EndOutcome h (ended u)) (sym f.is)
-      (choose (EndOutcome h) (is_between r.lex) _ _
-        (λ between. root_outcome h r.line r.items f.state (finished f.state) (sym (ap (λ u. u.line) f.is) ∙ line_is h s all) (between_items (unmarked h) r (standing (unmarked h) r f.read) between) f.nested refl)
-        (λ inside. in_item h r.items r.start (standing (unmarked h) r f.read).part (within (unmarked h) r f.read (λ k. true_false (sym (ap is_between k) ∙ inside)))))
+    (choose (EndOutcome h) (is_between r.lex) _ _
+    (λ between. root_outcome h r.line r.items f.state (finished f.state) (sym (ap (λ u. u.line) f.is) ∙ line_is h s all) (between_items (unmarked h) r (standing (unmarked h) r f.read) between) f.nested refl)
+    (λ inside. in_item h r.items r.start (standing (unmarked h) r f.read).part (within (unmarked h) r f.read (λ k. true_false (sym (ap is_between k) ∙ inside)))))
 
 pub end_ok : (h : List ℕ) (s : Scan) (root : Element) → reads start_scan h ≡ Ok s → ended s ≡ Ok root → IsTree h root × NoFault h
 end_ok h s root e is = (subst (EndOutcome h) is (end_outcome h s e), no_fault h s e)

@@ -24,7 +24,7 @@ some_digits (d ∷ ds) n e t = λ h. cc
 bad_number : (head : List ℕ) (tag : Tag) (quote : ℕ) (name opening raw value : List ℕ) (part reference : List ℕ) (code b : ℕ) → IsHead head tag → IsOpening quote name opening → IsRaw quote raw value → IsReference reference code → is_character code ≡ false → reference ≡ part ++ (b ∷ []) → IsBadEnd (head ++ (opening ++ (raw ++ part))) b
 bad_number head tag quote name opening raw value part reference code b is opens raws ref other spelled =
     bad_reference head tag quote name opening raw value (head ++ (opening ++ (raw ++ part))) reference code b is opens raws ref other
-      (append_assoc head (opening ++ (raw ++ part)) (b ∷ []) ∙ ap (λ x. head ++ x) (append_assoc opening (raw ++ part) (b ∷ []) ∙ ap (λ x. opening ++ x) (append_assoc raw part (b ∷ []) ∙ rw spelled refl)))
+    (append_assoc head (opening ++ (raw ++ part)) (b ∷ []) ∙ ap (λ x. head ++ x) (append_assoc opening (raw ++ part) (b ∷ []) ∙ ap (λ x. opening ++ x) (append_assoc raw part (b ∷ []) ∙ rw spelled refl)))
 
 pub bad_sound : {p : Lex} {w : List ℕ} (b : ℕ) → Reached p w → is_bad_end p b ≡ true → IsBadEnd w b
 bad_sound b (at_name n is) h =
@@ -209,12 +209,13 @@ push_same (x ∷ xs) (y ∷ ys) a b h =
 bad_number_run : (head : List ℕ) (tag : Tag) (quote : ℕ) (name opening raw value digits : List ℕ) (mark : List ℕ) (part : List ℕ) (b : ℕ) (r : Reference) (v : Inside) → IsHead head tag → IsOpening quote name opening → IsRaw quote raw value → run (value_at tag name quote (length raw) value) (mark ++ digits) ≡ Within (Refer v r) → is_bad_reference r 59 ≡ true → part ++ (b ∷ []) ≡ head ++ (opening ++ (raw ++ (mark ++ (digits ++ (59 ∷ []))))) → EndsBadly part b
 bad_number_run head tag quote name opening raw value digits mark part b r v is opens raws ran bad spelled =
     let joined : part ++ (b ∷ []) ≡ (head ++ (opening ++ (raw ++ (mark ++ digits)))) ++ (59 ∷ []) =
-      spelled ∙ rw (append_assoc head (opening ++ (raw ++ (mark ++ digits))) (59 ∷ []), append_assoc opening (raw ++ (mark ++ digits)) (59 ∷ []), append_assoc raw (mark ++ digits) (59 ∷ []), append_assoc mark digits (59 ∷ [])) refl in
+    spelled ∙ rw (append_assoc head (opening ++ (raw ++ (mark ++ digits))) (59 ∷ []), append_assoc opening (raw ++ (mark ++ digits)) (59 ∷ []), append_assoc raw (mark ++ digits) (59 ∷ []), append_assoc mark digits (59 ∷ [])) refl in
     let same = push_same part (head ++ (opening ++ (raw ++ (mark ++ digits)))) b 59 joined in
     record {
       state = Refer v r;
       ran = rw (same.0) (opened_run head tag quote name opening (raw ++ (mark ++ digits)) _ is opens (chained (value_at tag name quote 0 []) (value_at tag name quote (length raw) value) raw (mark ++ digits) _ (raw_run tag name opens.is_quote raws) ran));
-      bad = rw (same.1) bad }
+      bad = rw (same.1) bad;
+    }
 
 decimal_run : (v : Inside) (d : ℕ) (ds : List ℕ) → (38 == v.quote) ≡ false → AllPass (is_digit_of 10) (d ∷ ds) → length (d ∷ ds) ≤ 8 → run (Value v) (38 ∷ 35 ∷ d ∷ ds) ≡ Within (Refer (record v { count = v.count + 1 + 1 + 1 + length ds }) (Digits 10 (1 + length ds) (spelled_behind 10 0 (d ∷ ds))))
 decimal_run v d ds e are small =
@@ -237,7 +238,8 @@ bad_complete (bad_name part name b ends other bad) = let n = name_run ends in re
 bad_complete (bad_value head tag quote name opening raw value is opens raws bad) = record {
   state = value_at tag name quote (length raw) value;
   ran = opened_run head tag quote name opening raw _ is opens (raw_run tag name opens.is_quote raws);
-  bad = rw (same quote, bad) refl }
+  bad = rw (same quote, bad) refl;
+}
 bad_complete (bad_reference head tag quote name opening raw value part _ _ b is opens raws is_less other spelled) = absurd (cc)
 bad_complete (bad_reference head tag quote name opening raw value part _ _ b is opens raws is_greater other spelled) = absurd (cc)
 bad_complete (bad_reference head tag quote name opening raw value part _ _ b is opens raws is_ampersand other spelled) = absurd (cc)
@@ -246,9 +248,9 @@ bad_complete (bad_reference head tag quote name opening raw value part _ _ b is 
 bad_complete (bad_reference head tag quote name opening raw value part _ _ b is opens raws (is_decimal [] some small are) other spelled) = absurd (some refl)
 bad_complete (bad_reference head tag quote name opening raw value part _ _ b is opens raws (is_decimal (d ∷ ds) some small are) other spelled) =
     bad_number_run head tag quote name opening raw value (d ∷ ds) (38 ∷ 35 ∷ []) part b _ _ is opens raws
-      (decimal_run (record { tag = tag; name = name; quote = quote; count = length raw; value = value }) d ds (quote_no_ampersand quote opens.is_quote) are small)
-      (rw (is_above 0 (1 + length ds) (omega arith), other) refl) spelled
+    (decimal_run (record { tag = tag; name = name; quote = quote; count = length raw; value = value }) d ds (quote_no_ampersand quote opens.is_quote) are small)
+    (rw (is_above 0 (1 + length ds) (omega arith), other) refl) spelled
 bad_complete (bad_reference head tag quote name opening raw value part _ _ b is opens raws (is_hexadecimal digits some small are) other spelled) =
     bad_number_run head tag quote name opening raw value digits (38 ∷ 35 ∷ 120 ∷ []) part b _ _ is opens raws
-      (hexadecimal_run (record { tag = tag; name = name; quote = quote; count = length raw; value = value }) digits (quote_no_ampersand quote opens.is_quote) are small)
-      (rw (some_length digits some, other) refl) spelled
+    (hexadecimal_run (record { tag = tag; name = name; quote = quote; count = length raw; value = value }) digits (quote_no_ampersand quote opens.is_quote) are small)
+    (rw (some_length digits some, other) refl) spelled

@@ -84,18 +84,26 @@ StandingAt bytes (Some r) = Standing bytes r
 standing_next : (bytes : List ℕ) (r : Reading) (b : ℕ) (s : Standing bytes r) (n : Next) → Went (s.part ++ (b ∷ [])) n → StandingAt (bytes ++ (b ∷ [])) (read_next r b n)
 standing_next bytes r b s Broken w = tt
 standing_next bytes r b s (Within q) w = record {
-  before = s.before; part = s.part ++ (b ∷ []); are = s.are; reached = w;
+  before = s.before;
+  part = s.part ++ (b ∷ []);
+  are = s.are;
+  reached = w;
   joined = rw (s.joined) (append_assoc s.before s.part (b ∷ []));
-  line = rw (s.line) (sym (line-push bytes b)); start = s.start }
+  line = rw (s.line) (sym (line-push bytes b));
+  start = s.start;
+}
 standing_next bytes r b s (Whole item) w =
-  let joined : bytes ++ (b ∷ []) ≡ s.before ++ (s.part ++ (b ∷ [])) = ap (λ x. x ++ (b ∷ [])) s.joined ∙ append_assoc s.before s.part (b ∷ []) in
-  let line : line_on r.line b ≡ line_after (bytes ++ (b ∷ [])) = ap (λ n. line_on n b) s.line ∙ sym (line-push bytes b) in
-  record {
-  before = s.before ++ (s.part ++ (b ∷ [])); part = [];
-  are = rw (s.start) (and_item r.items s.before item (s.part ++ (b ∷ [])) s.are w);
-  reached = at_between;
-  joined = joined ∙ sym (append-nil (s.before ++ (s.part ++ (b ∷ []))));
-  line = line; start = line ∙ ap line_after joined }
+    let joined : bytes ++ (b ∷ []) ≡ s.before ++ (s.part ++ (b ∷ [])) = ap (λ x. x ++ (b ∷ [])) s.joined ∙ append_assoc s.before s.part (b ∷ []) in
+    let line : line_on r.line b ≡ line_after (bytes ++ (b ∷ [])) = ap (λ n. line_on n b) s.line ∙ sym (line-push bytes b) in
+    record {
+      before = s.before ++ (s.part ++ (b ∷ []));
+      part = [];
+      are = rw (s.start) (and_item r.items s.before item (s.part ++ (b ∷ [])) s.are w);
+      reached = at_between;
+      joined = joined ∙ sym (append-nil (s.before ++ (s.part ++ (b ∷ []))));
+      line = line;
+      start = line ∙ ap line_after joined;
+    }
 
 pub standing_step : (bytes : List ℕ) (r : Reading) (b : ℕ) → Standing bytes r → StandingAt (bytes ++ (b ∷ [])) (read_next r b (next r.lex b))
 standing_step bytes r b s = standing_next bytes r b s (next r.lex b) (item_step b s.reached)

@@ -124,8 +124,8 @@ digits_run base v count number [] fits are = ap (λ k. Within (Refer (record v {
 digits_run base v count number (d ∷ ds) fits are =
     let t : nat_lt count 8 ≡ true = grind (arith, nat_tests, fits) in
     then_run (Refer v (Digits base count number)) (Refer (counted v) (Digits base (count + 1) (base * number + digit_of d))) d ds _ (rw (are.0, t) refl) (digits_run base (counted v) (count + 1) (base * number + digit_of d) ds (omega (arith, fits)) are.1
-      ∙ ap (λ k. Within (Refer (record v { count = k }) (Digits base (count + 1 + length ds) (spelled_behind base (base * number + digit_of d) ds)))) (omega arith)
-      ∙ ap (λ k. Within (Refer (record v { count = v.count + length (d ∷ ds) }) (Digits base k (spelled_behind base (base * number + digit_of d) ds)))) (omega arith))
+    ∙ ap (λ k. Within (Refer (record v { count = k }) (Digits base (count + 1 + length ds) (spelled_behind base (base * number + digit_of d) ds)))) (omega arith)
+    ∙ ap (λ k. Within (Refer (record v { count = v.count + length (d ∷ ds) }) (Digits base k (spelled_behind base (base * number + digit_of d) ds)))) (omega arith))
 
 recount : (v : Inside) (value : List ℕ) (m n : ℕ) → m ≡ n → ◌≡◌ {A = Next} (Within (Value (record v { count = m; value = value }))) (Within (Value (record v { count = n; value = value })))
 recount v value m n e = ap (λ k. Within (Value (record v { count = k; value = value }))) e
@@ -148,16 +148,16 @@ reference_run v e (is_decimal (d ∷ ds) some small are) =
     let inner = counted (counted (counted v)) in
     let fits : 1 + length ds ≤ 8 = omega (arith, small) in
     then_run (Value v) (Refer (counted v) Ampersand) 38 (35 ∷ d ∷ (ds ++ (59 ∷ []))) _ (rw e refl) (then_run (Refer (counted (counted v)) NumberSign) (Refer inner (Digits 10 1 (10 * 0 + digit_of d))) d (ds ++ (59 ∷ [])) _ (rw (digit_no_x d are.0, are.0) refl) (chained (Refer inner (Digits 10 1 (10 * 0 + digit_of d))) (Refer (record inner { count = inner.count + length ds }) (Digits 10 (1 + length ds) (spelled_behind 10 0 (d ∷ ds)))) ds (59 ∷ []) _
-      (digits_run 10 inner 1 (10 * 0 + digit_of d) ds fits are.1)
-      (number_ends 10 (record inner { count = inner.count + length ds }) (1 + length ds) (spelled_behind 10 0 (d ∷ ds)) refl (grind (arith, nat_tests))
-        ∙ recount v (v.value ++ encode_utf8 (spelled_behind 10 0 (d ∷ ds))) (v.count + 1 + 1 + 1 + length ds + 1) (v.count + length (38 ∷ 35 ∷ d ∷ (ds ++ (59 ∷ [])))) (omega (arith, length-push ds 59)))))
+    (digits_run 10 inner 1 (10 * 0 + digit_of d) ds fits are.1)
+    (number_ends 10 (record inner { count = inner.count + length ds }) (1 + length ds) (spelled_behind 10 0 (d ∷ ds)) refl (grind (arith, nat_tests))
+    ∙ recount v (v.value ++ encode_utf8 (spelled_behind 10 0 (d ∷ ds))) (v.count + 1 + 1 + 1 + length ds + 1) (v.count + length (38 ∷ 35 ∷ d ∷ (ds ++ (59 ∷ [])))) (omega (arith, length-push ds 59)))))
 reference_run v e (is_hexadecimal digits some small are) =
     let inner = counted (counted (counted v)) in
     let fits : 0 + length digits ≤ 8 = omega (arith, small) in
     then_run (Value v) (Refer (counted v) Ampersand) 38 (35 ∷ 120 ∷ (digits ++ (59 ∷ []))) _ (rw e refl) (chained (Refer inner (Digits 16 0 0)) (Refer (record inner { count = inner.count + length digits }) (Digits 16 (0 + length digits) (spelled_behind 16 0 digits))) digits (59 ∷ []) _
-      (digits_run 16 inner 0 0 digits fits are)
-      (number_ends 16 (record inner { count = inner.count + length digits }) (0 + length digits) (spelled_behind 16 0 digits) refl (some_digits digits some)
-        ∙ recount v (v.value ++ encode_utf8 (spelled_behind 16 0 digits)) (v.count + 1 + 1 + 1 + length digits + 1) (v.count + length (38 ∷ 35 ∷ 120 ∷ (digits ++ (59 ∷ [])))) (omega (arith, length-push digits 59))))
+    (digits_run 16 inner 0 0 digits fits are)
+    (number_ends 16 (record inner { count = inner.count + length digits }) (0 + length digits) (spelled_behind 16 0 digits) refl (some_digits digits some)
+    ∙ recount v (v.value ++ encode_utf8 (spelled_behind 16 0 digits)) (v.count + 1 + 1 + 1 + length digits + 1) (v.count + length (38 ∷ 35 ∷ 120 ∷ (digits ++ (59 ∷ [])))) (omega (arith, length-push digits 59))))
 
 -- values
 abbrev pub value_at : Tag → List ℕ → ℕ → ℕ → List ℕ → Lex
@@ -168,11 +168,11 @@ raw_run tag name q (no_byte quote) = refl
 raw_run tag name q (and_byte quote raw value b is plain) =
     let t = value_no_quote quote b plain in
     chained (value_at tag name quote 0 []) (value_at tag name quote (length raw) value) raw (b ∷ []) _ (raw_run tag name q is)
-      (then_run (value_at tag name quote (length raw) value) (value_at tag name quote (length raw + 1) (value ++ (spaced b ∷ []))) b [] _ (rw (t.0, t.1, t.2) refl) (rw (length-push raw b) refl))
+    (then_run (value_at tag name quote (length raw) value) (value_at tag name quote (length raw + 1) (value ++ (spaced b ∷ []))) b [] _ (rw (t.0, t.1, t.2) refl) (rw (length-push raw b) refl))
 raw_run tag name q (and_reference quote raw value r code is ref) =
     chained (value_at tag name quote 0 []) (value_at tag name quote (length raw) value) raw r _ (raw_run tag name q is)
-      (reference_run (record { tag = tag; name = name; quote = quote; count = length raw; value = value }) (quote_no_ampersand quote q) ref
-        ∙ rw (length-append raw r) refl)
+    (reference_run (record { tag = tag; name = name; quote = quote; count = length raw; value = value }) (quote_no_ampersand quote q) ref
+    ∙ rw (length-append raw r) refl)
 
 equals_on : (tag : Tag) (name : List ℕ) (b : ℕ) → is_blank b ≡ true → next (Equals tag name) b ≡ Within (Equals tag name)
 equals_on tag name b e = rw e refl
@@ -184,8 +184,8 @@ equals_run : (tag : Tag) (name before after : List ℕ) → AreBlanks before →
 equals_run tag name [] after befores afters = blanks_run (Equals tag name) (equals_on tag name) after afters
 equals_run tag name (b ∷ before) after befores afters =
     then_run (AttributeName tag name) (AttributeGap tag name) b (before ++ (61 ∷ after)) _ (rw (blank_no_name b befores.0, befores.0) refl) (chained (AttributeGap tag name) (AttributeGap tag name) before (61 ∷ after) _
-      (blanks_run (AttributeGap tag name) (gap_name_on tag name) before befores.1)
-      (blanks_run (Equals tag name) (equals_on tag name) after afters))
+    (blanks_run (AttributeGap tag name) (gap_name_on tag name) before befores.1)
+    (blanks_run (Equals tag name) (equals_on tag name) after afters))
 
 pub attribute_run : (tag : Tag) (name : List ℕ) → IsName name → run (Gap tag) name ≡ Within (AttributeName tag name)
 attribute_run tag [] is = absurd is
@@ -194,11 +194,11 @@ attribute_run tag (b ∷ bs) is = then_run (Gap tag) (AttributeName tag (b ∷ [
 pub opening_run : (tag : Tag) (p : Lex) (quote : ℕ) (name w : List ℕ) → TagState tag p → IsOpening quote name w → run p w ≡ Within (value_at tag name quote 0 [])
 opening_run tag p quote name w state is =
     rw (is.spelled, append_assoc (is.blanks ++ name) is.before (61 ∷ is.after))
-      (chained p (Equals tag name) (is.blanks ++ name ++ (is.before ++ (61 ∷ is.after))) (quote ∷ []) _
-        (chained p (AttributeName tag name) (is.blanks ++ name) (is.before ++ (61 ∷ is.after)) _
-          (chained p (Gap tag) is.blanks name _ (gap_run tag p is.blanks state is.some is.are_blanks) (attribute_run tag name is.is_name))
-          (equals_run tag name is.before is.after is.are_before is.are_after))
-        (then_run (Equals tag name) (value_at tag name quote 0 []) quote [] _ (rw (quote_no_blank quote is.is_quote, is.is_quote) refl) refl))
+    (chained p (Equals tag name) (is.blanks ++ name ++ (is.before ++ (61 ∷ is.after))) (quote ∷ []) _
+    (chained p (AttributeName tag name) (is.blanks ++ name) (is.before ++ (61 ∷ is.after)) _
+    (chained p (Gap tag) is.blanks name _ (gap_run tag p is.blanks state is.some is.are_blanks) (attribute_run tag name is.is_name))
+    (equals_run tag name is.before is.after is.are_before is.are_after))
+    (then_run (Equals tag name) (value_at tag name quote 0 []) quote [] _ (rw (quote_no_blank quote is.is_quote, is.is_quote) refl) refl))
 
 pub head_run : {w : List ℕ} {tag : Tag} → IsHead w tag → RanTo tag Between w
 head_run (head_name [] is) = absurd is
@@ -208,10 +208,11 @@ head_run (head_more head tag quote name opening raw value is opens raws) =
     record {
       state = Behind (with_attribute tag name value);
       ran = chained Between ran.state head (opening ++ raw ++ (quote ∷ [])) _ ran.ran
-        (chained ran.state (value_at tag name quote (length raw) value) (opening ++ raw) (quote ∷ []) _
+          (chained ran.state (value_at tag name quote (length raw) value) (opening ++ raw) (quote ∷ []) _
           (chained ran.state (value_at tag name quote 0 []) opening raw _ (opening_run tag ran.state quote name opening ran.tagged opens) (raw_run tag name opens.is_quote raws))
           (then_run (value_at tag name quote (length raw) value) (Behind (with_attribute tag name value)) quote [] _ (rw (same quote) refl) refl));
-      tagged = record { on = λ b e. refl } }
+      tagged = record { on = λ b e. refl };
+    }
 
 -- comments, instructions and doctypes
 some_same : {A : Type 0} (x y : A) → Some x ≡ Some y → x ≡ y

@@ -52,21 +52,21 @@ on_value quote count v bytes e f = (e, rw f refl)
 refer_inside : (quote count : ℕ) (v : Inside) (r : Reference) (b : ℕ) → v.quote ≡ quote → v.count ≡ count → InsideNext quote (count + 1) (refer_next v r b)
 refer_inside quote count v Ampersand b e f =
     choose (InsideNext quote (count + 1)) (b == 35) _ _ (λ _. on_refer quote count v NumberSign e f)
-      (λ _. choose (InsideNext quote (count + 1)) (b == 108) _ _ (λ _. on_refer quote count v (Named (116 ∷ []) 60) e f)
-        (λ _. choose (InsideNext quote (count + 1)) (b == 103) _ _ (λ _. on_refer quote count v (Named (116 ∷ []) 62) e f)
-          (λ _. choose (InsideNext quote (count + 1)) (b == 113) _ _ (λ _. on_refer quote count v (Named (117 ∷ 111 ∷ 116 ∷ []) 34) e f)
-            (λ _. choose (InsideNext quote (count + 1)) (b == 97) _ _ (λ _. on_refer quote count v LetterA e f) (λ _. tt)))))
+    (λ _. choose (InsideNext quote (count + 1)) (b == 108) _ _ (λ _. on_refer quote count v (Named (116 ∷ []) 60) e f)
+    (λ _. choose (InsideNext quote (count + 1)) (b == 103) _ _ (λ _. on_refer quote count v (Named (116 ∷ []) 62) e f)
+    (λ _. choose (InsideNext quote (count + 1)) (b == 113) _ _ (λ _. on_refer quote count v (Named (117 ∷ 111 ∷ 116 ∷ []) 34) e f)
+    (λ _. choose (InsideNext quote (count + 1)) (b == 97) _ _ (λ _. on_refer quote count v LetterA e f) (λ _. tt)))))
 refer_inside quote count v LetterA b e f =
     choose (InsideNext quote (count + 1)) (b == 109) _ _ (λ _. on_refer quote count v (Named (112 ∷ []) 38) e f)
-      (λ _. choose (InsideNext quote (count + 1)) (b == 112) _ _ (λ _. on_refer quote count v (Named (111 ∷ 115 ∷ []) 39) e f) (λ _. tt))
+    (λ _. choose (InsideNext quote (count + 1)) (b == 112) _ _ (λ _. on_refer quote count v (Named (111 ∷ 115 ∷ []) 39) e f) (λ _. tt))
 refer_inside quote count v (Named [] code) b e f = choose (InsideNext quote (count + 1)) (b == 59) _ _ (λ _. on_value quote count v (encode_utf8 code) e f) (λ _. tt)
 refer_inside quote count v (Named (c ∷ rest) code) b e f = choose (InsideNext quote (count + 1)) (b == c) _ _ (λ _. on_refer quote count v (Named rest code) e f) (λ _. tt)
 refer_inside quote count v NumberSign b e f =
     choose (InsideNext quote (count + 1)) (b == 120) _ _ (λ _. on_refer quote count v (Digits 16 0 0) e f)
-      (λ _. choose (InsideNext quote (count + 1)) (is_digit_of 10 b) _ _ (λ _. on_refer quote count v (Digits 10 1 (10 * 0 + digit_of b)) e f) (λ _. tt))
+    (λ _. choose (InsideNext quote (count + 1)) (is_digit_of 10 b) _ _ (λ _. on_refer quote count v (Digits 10 1 (10 * 0 + digit_of b)) e f) (λ _. tt))
 refer_inside quote count v (Digits base digits number) b e f =
     choose (InsideNext quote (count + 1)) (is_digit_of base b && nat_lt digits 8) _ _ (λ _. on_refer quote count v (Digits base (digits + 1) (base * number + digit_of b)) e f)
-      (λ _. choose (InsideNext quote (count + 1)) ((b == 59) && nat_lt 0 digits) _ _ (λ _. on_value quote count v (encode_utf8 number) e f) (λ _. tt))
+    (λ _. choose (InsideNext quote (count + 1)) ((b == 59) && nat_lt 0 digits) _ _ (λ _. on_value quote count v (encode_utf8 number) e f) (λ _. tt))
 
 not_false : (t : Bool) → not t ≡ true → t ≡ false
 not_false true h = cc
@@ -76,7 +76,7 @@ inside_step : (quote count : ℕ) (p : Lex) (b : ℕ) → InsideAt quote count p
 inside_step quote count (Value v) b is other =
     let plain : (b == v.quote) ≡ false = rw (is.0) (not_false (b == quote) other) in
     rw plain (choose (InsideNext quote (count + 1)) (b == 38) _ _ (λ _. on_refer quote count v Ampersand is.0 is.1)
-      (λ _. choose (InsideNext quote (count + 1)) (b == 60) _ _ (λ _. tt) (λ _. on_value quote count v (spaced b ∷ []) is.0 is.1)))
+    (λ _. choose (InsideNext quote (count + 1)) (b == 60) _ _ (λ _. tt) (λ _. on_value quote count v (spaced b ∷ []) is.0 is.1)))
 inside_step quote count (Refer v r) b is other = refer_inside quote count v r b is.0 is.1
 inside_step quote count _ b is other = absurd is
 
@@ -192,7 +192,6 @@ no_decision body b r s t read went nested few good short _ (bad_nesting _ _ item
     let same = same_reading (body ++ (b ∷ [])) s _ went (ap (read_all first) bytes ∙ whole) in
     refused (rw (ap (λ u. u.items) same) at (nested_front s.items t nested))
 
-
 opened_between : Opened ≡ Between → ⊥
 opened_between h = cc
 
@@ -231,17 +230,17 @@ between_short b q h = on (b == 60) h
 broken_outcome : (body : List ℕ) (b : ℕ) (r : Reading) → read_all first body ≡ Some r → next r.lex b ≡ Broken → DecidesWithin body b (fault BadMarkup r.start)
 broken_outcome body b r read h =
     no_front body b r.items r.start (standing body r read).part
-      (dead_front (body ++ (b ∷ [])) (read_one first r body b read ∙ ap (read_next r b) h))
-      (within body r read (λ e. between_alive b (rw e at h)))
+    (dead_front (body ++ (b ∷ [])) (read_one first r body b read ∙ ap (read_next r b) h))
+    (within body r read (λ e. between_alive b (rw e at h)))
 
 long_outcome : (body : List ℕ) (b : ℕ) (r : Reading) (q : Lex) → read_all first body ≡ Some r → is_bad_end r.lex b ≡ false → next r.lex b ≡ Within q → is_long q ≡ true → DecidesWithin body b (fault LongToken r.start)
 long_outcome body b r q read good h long =
     let s = standing body r read in
     long_token body b r.items r.start s.part
-      (live_front (body ++ (b ∷ [])) _ (read_one first r body b read ∙ ap (read_next r b) h))
-      (within body r read (λ e. between_short b q (rw e at h) long))
-      (long_sound (subst (Went (s.part ++ (b ∷ []))) h (item_step b s.reached)) long)
-      (λ bad. bad_reads body b r r.items s.part s.before read s.are s.joined bad good)
+    (live_front (body ++ (b ∷ [])) _ (read_one first r body b read ∙ ap (read_next r b) h))
+    (within body r read (λ e. between_short b q (rw e at h) long))
+    (long_sound (subst (Went (s.part ++ (b ∷ []))) h (item_step b s.reached)) long)
+    (λ bad. bad_reads body b r r.items s.part s.before read s.are s.joined bad good)
 
 on_outcome : (body : List ℕ) (b count : ℕ) (r : Reading) (t : State) (q : Lex) → read_all first body ≡ Some r → nests r.items at_start ≡ Some t → ((element_count r.items == 1000000) && begins_tag r.lex b) ≡ false → is_bad_end r.lex b ≡ false → next r.lex b ≡ Within q → is_long q ≡ false → OutcomeWithin body b count (Ok (record { mark = Passed; count = count + 1; line = line_on r.line b; start = r.start; elements = element_count r.items; lex = q; nest = t }))
 on_outcome body b count r t q read nested few good h short =
@@ -261,10 +260,10 @@ nested_outcome body b count mark r t item None read nested few good h k =
     let s = standing body r read in
     let refused : nests (r.items ++ ((item, line_after s.before) ∷ [])) at_start ≡ None = rw (← s.start) (nest_push r.items item r.start t None nested k) in
     rw (s.start) (bad_nesting body b r.items s.before s.part item s.are s.joined
-      (subst (Went (s.part ++ (b ∷ []))) h (item_step b s.reached))
-      (λ bad. bad_reads body b r r.items s.part s.before read s.are s.joined bad good)
-      (nested_front r.items t nested)
-      (unnested_front (r.items ++ ((item, line_after s.before) ∷ [])) refused))
+    (subst (Went (s.part ++ (b ∷ []))) h (item_step b s.reached))
+    (λ bad. bad_reads body b r r.items s.part s.before read s.are s.joined bad good)
+    (nested_front r.items t nested)
+    (unnested_front (r.items ++ ((item, line_after s.before) ∷ [])) refused))
 nested_outcome body b count mark r t item (Some u) read nested few good h k =
     let went = read_one first r body b read ∙ ap (read_next r b) h in
     let s : Reading = record { items = r.items ++ ((item, r.start) ∷ []); line = line_on r.line b; start = line_on r.line b; lex = Between } in
@@ -275,17 +274,17 @@ next_outcome : (body : List ℕ) (b count : ℕ) (mark : Mark) (r : Reading) (t 
 next_outcome body b count mark r t Broken read nested few good h = broken_outcome body b r read h
 next_outcome body b count mark r t (Within q) read nested few good h =
     choose (λ j. OutcomeWithin body b count (on_judged (scan_at mark count r t) b j)) (is_long q) _ _
-      (λ long. long_outcome body b r q read good h long)
-      (λ short. on_outcome body b count r t q read nested few good h short)
+    (λ long. long_outcome body b r q read good h long)
+    (λ short. on_outcome body b count r t q read nested few good h short)
 next_outcome body b count mark r t (Whole item) read nested few good h = nested_outcome body b count mark r t item (nest item r.start t) read nested few good h refl
 
 item_outcome : (body : List ℕ) (b count : ℕ) (mark : Mark) (r : Reading) (t : State) → read_all first body ≡ Some r → nests r.items at_start ≡ Some t → OutcomeWithin body b count (item_stepped (scan_at mark count r t) b)
 item_outcome body b count mark r t read nested =
     choose (OutcomeWithin body b count) ((element_count r.items == 1000000) && begins_tag r.lex b) _ _
-      (λ many. many_outcome body b r read many)
-      (λ few. choose (λ j. OutcomeWithin body b count (on_judged (scan_at mark count r t) b j)) (is_bad_end r.lex b) _ _
-        (λ bad. bad_outcome body b r read bad)
-        (λ good. next_outcome body b count mark r t (next r.lex b) read nested few good refl))
+    (λ many. many_outcome body b r read many)
+    (λ few. choose (λ j. OutcomeWithin body b count (on_judged (scan_at mark count r t) b j)) (is_bad_end r.lex b) _ _
+    (λ bad. bad_outcome body b r read bad)
+    (λ good. next_outcome body b count mark r t (next r.lex b) read nested few good refl))
 
 -- The byte order mark.
 line_two : (bs : List ℕ) → line_after (behind_two bs) ≡ line_after (239 ∷ 187 ∷ bs)
@@ -331,7 +330,8 @@ nil_cons b w h = cc
 settled_push : (h : List ℕ) (b : ℕ) → Settled h → Settled (h ++ (b ∷ []))
 settled_push h b s = record {
   more = λ w. rw (append_assoc h (b ∷ []) w, s.more (b ∷ w), s.more (b ∷ [])) (sym (append_assoc (unmarked h) (b ∷ []) w));
-  past = λ w some front. s.past (b ∷ w) (nil_cons b w) (rw (append_assoc h (b ∷ []) w) at front) }
+  past = λ w some front. s.past (b ∷ w) (nil_cons b w) (rw (append_assoc h (b ∷ []) w) at front);
+}
 
 pub data MarkFits : List ℕ → Mark → Type 0 where
   unread : MarkFits [] Unread
@@ -367,10 +367,14 @@ plain_none _ b p short none _ (broken_at_three _ other) = p.not_two refl
 plain_none _ b p short none found (behind_mark h _ _ fits apart decides) = none found decides
 
 plain_outcome : (h : List ℕ) (b count : ℕ) (p : Plain h b) → count ≡ length h → length h ≢ 67108864 → (o : Result Scan TextFault) → OutcomeWithin (unmarked h) b count o → Outcome h b o
-plain_outcome h b count p counts short (Ok s) out = (record {
-  mark = rw (out.1) (passed (h ++ (b ∷ [])) p.settled);
-  count = out.2 ∙ rw (counts) (sym (length-push h b));
-  fits = rw (p.joined) out.0 }, plain_none h b p short out.3)
+plain_outcome h b count p counts short (Ok s) out = (
+  record {
+    mark = rw (out.1) (passed (h ++ (b ∷ [])) p.settled);
+    count = out.2 ∙ rw (counts) (sym (length-push h b));
+    fits = rw (p.joined) out.0;
+  },
+  plain_none h b p short out.3,
+)
 plain_outcome h b count p counts short (Err found) out = behind_mark h b found short p.apart out
 
 plain_first : (b : ℕ) → (b == 239) ≡ false → Plain [] b
@@ -385,7 +389,8 @@ plain_settled h b s = record {
   joined = s.more (b ∷ []);
   apart = s.past (b ∷ []) (some_one b);
   not_one = λ e. s.past (187 ∷ []) (some_one 187) (rw e two_bytes);
-  not_two = λ e. s.past (191 ∷ []) (some_one 191) (rw e whole_mark) }
+  not_two = λ e. s.past (191 ∷ []) (some_one 191) (rw e whole_mark);
+}
 
 -- a byte of the mark decides nothing
 mark_none : (h : List ℕ) (b : ℕ) → length h ≢ 67108864 → IsMarkFront (h ++ (b ∷ [])) → ((h ≡ 239 ∷ []) → b ≡ 187) → ((h ≡ 239 ∷ 187 ∷ []) → b ≡ 191) → (found : TextFault) → Decides h b found → ⊥
@@ -406,16 +411,16 @@ scan_outcome body b s f = subst (λ u. OutcomeWithin body b s.count (item_steppe
 mark_outcome : (h : List ℕ) (s : Scan) (b : ℕ) (mark : Mark) → MarkFits h mark → s.count ≡ length h → length h ≢ 67108864 → Fits (unmarked h) s → Outcome h b (mark_stepped mark s b)
 mark_outcome _ s b _ unread count short fits =
     choose (Outcome [] b) (b == 239) _ _
-      (λ e. rw (equal b 239 e) (record { mark = one_read; count = rw (count) refl; fits = same_fits [] s FirstByte fits }, mark_none [] 239 short one_byte (λ h. absurd (cc)) (λ h. absurd (cc))))
-      (λ e. plain_outcome [] b s.count (plain_first b e) count short (item_stepped s b) (scan_outcome [] b s fits))
+    (λ e. rw (equal b 239 e) (record { mark = one_read; count = rw (count) refl; fits = same_fits [] s FirstByte fits }, mark_none [] 239 short one_byte (λ h. absurd (cc)) (λ h. absurd (cc))))
+    (λ e. plain_outcome [] b s.count (plain_first b e) count short (item_stepped s b) (scan_outcome [] b s fits))
 mark_outcome _ s b _ one_read count short fits =
     choose (Outcome (239 ∷ []) b) (b == 187) _ _
-      (λ e. rw (equal b 187 e) (record { mark = two_read; count = rw (count) refl; fits = same_fits [] s SecondByte fits }, mark_none (239 ∷ []) 187 short two_bytes (λ h. refl) (λ h. absurd (cc))))
-      (λ e. broken_at_two b (other_byte b 187 e))
+    (λ e. rw (equal b 187 e) (record { mark = two_read; count = rw (count) refl; fits = same_fits [] s SecondByte fits }, mark_none (239 ∷ []) 187 short two_bytes (λ h. refl) (λ h. absurd (cc))))
+    (λ e. broken_at_two b (other_byte b 187 e))
 mark_outcome _ s b _ two_read count short fits =
     choose (Outcome (239 ∷ 187 ∷ []) b) (b == 191) _ _
-      (λ e. rw (equal b 191 e) (record { mark = passed (239 ∷ 187 ∷ 191 ∷ []) settled_mark; count = rw (count) refl; fits = same_fits [] s Passed fits }, mark_none (239 ∷ 187 ∷ []) 191 short whole_mark (λ h. absurd (cc)) (λ h. refl)))
-      (λ e. broken_at_three b (other_byte b 191 e))
+    (λ e. rw (equal b 191 e) (record { mark = passed (239 ∷ 187 ∷ 191 ∷ []) settled_mark; count = rw (count) refl; fits = same_fits [] s Passed fits }, mark_none (239 ∷ 187 ∷ []) 191 short whole_mark (λ h. absurd (cc)) (λ h. refl)))
+    (λ e. broken_at_three b (other_byte b 191 e))
 mark_outcome _ s b _ (passed h settled) count short fits = plain_outcome h b s.count (plain_settled h b settled) count short (item_stepped s b) (scan_outcome (unmarked h) b s fits)
 
 pub line_is : (h : List ℕ) (s : Scan) → FitsAll h s → s.line ≡ line_after h
@@ -425,8 +430,8 @@ line_is h s f = ap (λ u. u.line) f.fits.is ∙ (standing (unmarked h) f.fits.re
 pub step_outcome : (h : List ℕ) (s : Scan) (b : ℕ) → FitsAll h s → Outcome h b (stepped s b)
 step_outcome h s b f =
     choose (Outcome h b) (s.count == 67108864) _ _
-      (λ e. rw (line_is h s f) (long_file h b (sym f.count ∙ equal s.count 67108864 e)))
-      (λ e. mark_outcome h s b s.mark f.mark f.count (λ long. other_byte s.count 67108864 e (f.count ∙ long)) f.fits)
+    (λ e. rw (line_is h s f) (long_file h b (sym f.count ∙ equal s.count 67108864 e)))
+    (λ e. mark_outcome h s b s.mark f.mark f.count (λ long. other_byte s.count 67108864 e (f.count ∙ long)) f.fits)
 
 pub fits_start : FitsAll [] start_scan
 fits_start = record { mark = unread; count = refl; fits = record { reading = first; state = at_start; read = refl; nested = refl; is = refl } }
@@ -468,6 +473,10 @@ no_fault h s e before b rest found joined d = no_fault_on before b rest found (r
 -- the fault of the byte behind it is the first
 pub first_fault : (h : List ℕ) (s : Scan) (b : ℕ) (rest bytes : List ℕ) (found : TextFault) → reads start_scan h ≡ Ok s → stepped s b ≡ Err found → bytes ≡ h ++ (b ∷ rest) → FirstFault bytes found
 first_fault h s b rest bytes found e stepped_is joined = record {
-  before = h; byte = b; rest = rest; joined = joined;
+  before = h;
+  byte = b;
+  rest = rest;
+  joined = joined;
   decides = subst (Outcome h b) stepped_is (step_outcome h s b (fits h s e));
-  first = no_fault h s e }
+  first = no_fault h s e;
+}

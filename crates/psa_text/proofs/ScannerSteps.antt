@@ -93,28 +93,28 @@ spelled-push base number (d ∷ ds) b = spelled-push base (base * number + digit
 tag_on_went : (head : List ℕ) (tag : Tag) (blanks : List ℕ) (b : ℕ) → IsHead head tag → AreBlanks blanks → Went (head ++ (blanks ++ (b ∷ []))) (tag_on tag b)
 tag_on_went head tag blanks b is are =
     choose (Went (head ++ (blanks ++ (b ∷ [])))) (b == 62) _ _
-      (λ e. rw (equal b 62 e) (is_start head tag blanks is are))
-      (λ _. choose (Went (head ++ (blanks ++ (b ∷ [])))) (b == 47) _ _
-        (λ e. rw (equal b 47 e) (at_slash head tag blanks is are))
-        (λ _. choose (Went (head ++ (blanks ++ (b ∷ [])))) (is_blank b) _ _
-          (λ e. at_gap head tag (blanks ++ (b ∷ [])) is (some_push blanks b) (all_push is_blank blanks b are e))
-          (λ _. tt)))
+    (λ e. rw (equal b 62 e) (is_start head tag blanks is are))
+    (λ _. choose (Went (head ++ (blanks ++ (b ∷ [])))) (b == 47) _ _
+    (λ e. rw (equal b 47 e) (at_slash head tag blanks is are))
+    (λ _. choose (Went (head ++ (blanks ++ (b ∷ [])))) (is_blank b) _ _
+    (λ e. at_gap head tag (blanks ++ (b ∷ [])) is (some_push blanks b) (all_push is_blank blanks b are e))
+    (λ _. tt)))
 
 name_on_went : (head : List ℕ) (tag : Tag) (blanks name before : List ℕ) (b : ℕ) → IsHead head tag → blanks ≢ [] → AreBlanks blanks → IsName name → AreBlanks before → Went (head ++ (blanks ++ name ++ (before ++ (b ∷ [])))) (name_on tag name b)
 name_on_went head tag blanks name before b is some are named befores =
     choose (Went (head ++ (blanks ++ name ++ (before ++ (b ∷ []))))) (is_blank b) _ _
-      (λ e. at_attribute_gap head tag blanks name (before ++ (b ∷ [])) is some are named (all_push is_blank before b befores e))
-      (λ _. choose (Went (head ++ (blanks ++ name ++ (before ++ (b ∷ []))))) (b == 61) _ _
-        (λ e. rw (equal b 61 e, ← append_assoc (blanks ++ name) before (61 ∷ [])) (at_equals head tag blanks name before [] is some are named befores tt))
-        (λ _. tt))
+    (λ e. at_attribute_gap head tag blanks name (before ++ (b ∷ [])) is some are named (all_push is_blank before b befores e))
+    (λ _. choose (Went (head ++ (blanks ++ name ++ (before ++ (b ∷ []))))) (b == 61) _ _
+    (λ e. rw (equal b 61 e, ← append_assoc (blanks ++ name) before (61 ∷ [])) (at_equals head tag blanks name before [] is some are named befores tt))
+    (λ _. tt))
 
 end_on_went : (n blanks : List ℕ) (b : ℕ) → IsName n → AreBlanks blanks → Went (60 ∷ 47 ∷ (n ++ (blanks ++ (b ∷ [])))) (end_on n b)
 end_on_went n blanks b named are =
     choose (Went (60 ∷ 47 ∷ (n ++ (blanks ++ (b ∷ []))))) (is_blank b) _ _
-      (λ e. at_end_gap n (blanks ++ (b ∷ [])) named (all_push is_blank blanks b are e))
-      (λ _. choose (Went (60 ∷ 47 ∷ (n ++ (blanks ++ (b ∷ []))))) (b == 62) _ _
-        (λ e. rw (equal b 62 e) (is_end n blanks named are))
-        (λ _. tt))
+    (λ e. at_end_gap n (blanks ++ (b ∷ [])) named (all_push is_blank blanks b are e))
+    (λ _. choose (Went (60 ∷ 47 ∷ (n ++ (blanks ++ (b ∷ []))))) (b == 62) _ _
+    (λ e. rw (equal b 62 e) (is_end n blanks named are))
+    (λ _. tt))
 
 -- one more byte of a reference
 module _ (head : List ℕ) (tag : Tag) (quote : ℕ) (name opening raw value : List ℕ) (count : ℕ) (is : IsHead head tag) (opens : IsOpening quote name opening) (raws : IsRaw quote raw value) where
@@ -133,35 +133,35 @@ module _ (head : List ℕ) (tag : Tag) (quote : ℕ) (name opening raw value : L
   refer_went : (part : List ℕ) (r : Reference) (b : ℕ) → InReference r part → count ≡ length (raw ++ part) → Refers part b (refer_next inside r b)
   refer_went _ _ b ref_ampersand counts =
       choose (Refers (38 ∷ []) b) (b == 35) _ _ (λ e. goes (38 ∷ []) b NumberSign (rw (equal b 35 e) ref_number) counts)
-        (λ _. choose (Refers (38 ∷ []) b) (b == 108) _ _ (λ e. goes (38 ∷ []) b (Named (116 ∷ []) 60) (rw (equal b 108 e) (ref_named (116 ∷ []) 60 (38 ∷ 108 ∷ []) is_less)) counts)
-          (λ _. choose (Refers (38 ∷ []) b) (b == 103) _ _ (λ e. goes (38 ∷ []) b (Named (116 ∷ []) 62) (rw (equal b 103 e) (ref_named (116 ∷ []) 62 (38 ∷ 103 ∷ []) is_greater)) counts)
-            (λ _. choose (Refers (38 ∷ []) b) (b == 113) _ _ (λ e. goes (38 ∷ []) b (Named (117 ∷ 111 ∷ 116 ∷ []) 34) (rw (equal b 113 e) (ref_named (117 ∷ 111 ∷ 116 ∷ []) 34 (38 ∷ 113 ∷ []) is_quotation)) counts)
-              (λ _. choose (Refers (38 ∷ []) b) (b == 97) _ _ (λ e. goes (38 ∷ []) b LetterA (rw (equal b 97 e) ref_letter) counts)
-                (λ _. tt)))))
+      (λ _. choose (Refers (38 ∷ []) b) (b == 108) _ _ (λ e. goes (38 ∷ []) b (Named (116 ∷ []) 60) (rw (equal b 108 e) (ref_named (116 ∷ []) 60 (38 ∷ 108 ∷ []) is_less)) counts)
+      (λ _. choose (Refers (38 ∷ []) b) (b == 103) _ _ (λ e. goes (38 ∷ []) b (Named (116 ∷ []) 62) (rw (equal b 103 e) (ref_named (116 ∷ []) 62 (38 ∷ 103 ∷ []) is_greater)) counts)
+      (λ _. choose (Refers (38 ∷ []) b) (b == 113) _ _ (λ e. goes (38 ∷ []) b (Named (117 ∷ 111 ∷ 116 ∷ []) 34) (rw (equal b 113 e) (ref_named (117 ∷ 111 ∷ 116 ∷ []) 34 (38 ∷ 113 ∷ []) is_quotation)) counts)
+      (λ _. choose (Refers (38 ∷ []) b) (b == 97) _ _ (λ e. goes (38 ∷ []) b LetterA (rw (equal b 97 e) ref_letter) counts)
+      (λ _. tt)))))
   refer_went _ _ b ref_letter counts =
       choose (Refers (38 ∷ 97 ∷ []) b) (b == 109) _ _ (λ e. goes (38 ∷ 97 ∷ []) b (Named (112 ∷ []) 38) (rw (equal b 109 e) (ref_named (112 ∷ []) 38 (38 ∷ 97 ∷ 109 ∷ []) is_ampersand)) counts)
-        (λ _. choose (Refers (38 ∷ 97 ∷ []) b) (b == 112) _ _ (λ e. goes (38 ∷ 97 ∷ []) b (Named (111 ∷ 115 ∷ []) 39) (rw (equal b 112 e) (ref_named (111 ∷ 115 ∷ []) 39 (38 ∷ 97 ∷ 112 ∷ []) is_apostrophe)) counts)
-          (λ _. tt))
+      (λ _. choose (Refers (38 ∷ 97 ∷ []) b) (b == 112) _ _ (λ e. goes (38 ∷ 97 ∷ []) b (Named (111 ∷ 115 ∷ []) 39) (rw (equal b 112 e) (ref_named (111 ∷ 115 ∷ []) 39 (38 ∷ 97 ∷ 112 ∷ []) is_apostrophe)) counts)
+      (λ _. tt))
   refer_went part _ b (ref_named [] code _ is_ref) counts =
       choose (Refers part b) (b == 59) _ _ (λ e. ends part b code (rw (equal b 59 e) is_ref) counts) (λ _. tt)
   refer_went part _ b (ref_named (c ∷ rest) code _ is_ref) counts =
       choose (Refers part b) (b == c) _ _ (λ e. goes part b (Named rest code) (rw (equal b c e) (ref_named rest code (part ++ (c ∷ [])) (rw (append_assoc part (c ∷ []) (rest ++ (59 ∷ []))) is_ref))) counts) (λ _. tt)
   refer_went _ _ b ref_number counts =
       choose (Refers (38 ∷ 35 ∷ []) b) (b == 120) _ _ (λ e. goes (38 ∷ 35 ∷ []) b (Digits 16 0 0) (rw (equal b 120 e) (ref_hexadecimal [] 0 0 (omega arith) refl refl tt)) counts)
-        (λ _. choose (Refers (38 ∷ 35 ∷ []) b) (is_digit_of 10 b) _ _ (λ e. goes (38 ∷ 35 ∷ []) b (Digits 10 1 (10 * 0 + digit_of b)) (ref_decimal (b ∷ []) 1 (10 * 0 + digit_of b) (λ h. cc) (omega arith) refl refl (e, tt)) counts)
-          (λ _. tt))
+      (λ _. choose (Refers (38 ∷ 35 ∷ []) b) (is_digit_of 10 b) _ _ (λ e. goes (38 ∷ 35 ∷ []) b (Digits 10 1 (10 * 0 + digit_of b)) (ref_decimal (b ∷ []) 1 (10 * 0 + digit_of b) (λ h. cc) (omega arith) refl refl (e, tt)) counts)
+      (λ _. tt))
   refer_went _ _ b (ref_decimal digits n number some small counted spelled are) counts =
       choose (Refers (38 ∷ 35 ∷ digits) b) (is_digit_of 10 b && nat_lt n 8) _ _
-        (λ e. let t = and_true (is_digit_of 10 b) (nat_lt n 8) e in goes (38 ∷ 35 ∷ digits) b (Digits 10 (n + 1) (10 * number + digit_of b)) (ref_decimal (digits ++ (b ∷ [])) (n + 1) (10 * number + digit_of b) (some_push digits b) (grind (arith, nat_tests, t.1)) (rw (length-push digits b, counted) refl) (rw (spelled-push 10 0 digits b, spelled) refl) (all_push (is_digit_of 10) digits b are t.0)) counts)
-        (λ _. choose (Refers (38 ∷ 35 ∷ digits) b) ((b == 59) && nat_lt 0 n) _ _
-          (λ e. let t = and_true (b == 59) (nat_lt 0 n) e in ends (38 ∷ 35 ∷ digits) b number (rw (equal b 59 t.0, spelled) (is_decimal digits some (rw (← counted) small) are)) counts)
-          (λ _. tt))
+      (λ e. let t = and_true (is_digit_of 10 b) (nat_lt n 8) e in goes (38 ∷ 35 ∷ digits) b (Digits 10 (n + 1) (10 * number + digit_of b)) (ref_decimal (digits ++ (b ∷ [])) (n + 1) (10 * number + digit_of b) (some_push digits b) (grind (arith, nat_tests, t.1)) (rw (length-push digits b, counted) refl) (rw (spelled-push 10 0 digits b, spelled) refl) (all_push (is_digit_of 10) digits b are t.0)) counts)
+      (λ _. choose (Refers (38 ∷ 35 ∷ digits) b) ((b == 59) && nat_lt 0 n) _ _
+      (λ e. let t = and_true (b == 59) (nat_lt 0 n) e in ends (38 ∷ 35 ∷ digits) b number (rw (equal b 59 t.0, spelled) (is_decimal digits some (rw (← counted) small) are)) counts)
+      (λ _. tt))
   refer_went _ _ b (ref_hexadecimal digits n number small counted spelled are) counts =
       choose (Refers (38 ∷ 35 ∷ 120 ∷ digits) b) (is_digit_of 16 b && nat_lt n 8) _ _
-        (λ e. let t = and_true (is_digit_of 16 b) (nat_lt n 8) e in goes (38 ∷ 35 ∷ 120 ∷ digits) b (Digits 16 (n + 1) (16 * number + digit_of b)) (ref_hexadecimal (digits ++ (b ∷ [])) (n + 1) (16 * number + digit_of b) (grind (arith, nat_tests, t.1)) (rw (length-push digits b, counted) refl) (rw (spelled-push 16 0 digits b, spelled) refl) (all_push (is_digit_of 16) digits b are t.0)) counts)
-        (λ _. choose (Refers (38 ∷ 35 ∷ 120 ∷ digits) b) ((b == 59) && nat_lt 0 n) _ _
-          (λ e. let t = and_true (b == 59) (nat_lt 0 n) e in ends (38 ∷ 35 ∷ 120 ∷ digits) b number (rw (equal b 59 t.0, spelled) (is_hexadecimal digits (some_of digits n counted t.1) (rw (← counted) small) are)) counts)
-          (λ _. tt))
+      (λ e. let t = and_true (is_digit_of 16 b) (nat_lt n 8) e in goes (38 ∷ 35 ∷ 120 ∷ digits) b (Digits 16 (n + 1) (16 * number + digit_of b)) (ref_hexadecimal (digits ++ (b ∷ [])) (n + 1) (16 * number + digit_of b) (grind (arith, nat_tests, t.1)) (rw (length-push digits b, counted) refl) (rw (spelled-push 16 0 digits b, spelled) refl) (all_push (is_digit_of 16) digits b are t.0)) counts)
+      (λ _. choose (Refers (38 ∷ 35 ∷ 120 ∷ digits) b) ((b == 59) && nat_lt 0 n) _ _
+      (λ e. let t = and_true (b == 59) (nat_lt 0 n) e in ends (38 ∷ 35 ∷ 120 ∷ digits) b number (rw (equal b 59 t.0, spelled) (is_hexadecimal digits (some_of digits n counted t.1) (rw (← counted) small) are)) counts)
+      (λ _. tt))
     where
       some_of : (digits : List ℕ) (n : ℕ) → n ≡ length digits → nat_lt 0 n ≡ true → digits ≢ []
       some_of [] n e t = absurd (grind (arith, nat_tests, e, t))
@@ -175,90 +175,90 @@ pub item_step : {p : Lex} {w : List ℕ} (b : ℕ) → Reached p w → Went (w +
 item_step b at_between = choose (Went (b ∷ [])) (b == 60) _ _ (λ e. rw (equal b 60 e) at_opened) (λ e. is_text b e)
 item_step b at_opened =
     choose (Went (60 ∷ b ∷ [])) (is_name_start b) _ _ (λ e. at_name (b ∷ []) (e, tt))
-      (λ _. choose (Went (60 ∷ b ∷ [])) (b == 47) _ _ (λ e. rw (equal b 47 e) at_end_opened)
-        (λ _. choose (Went (60 ∷ b ∷ [])) (b == 33) _ _ (λ e. rw (equal b 33 e) at_bang)
-          (λ _. choose (Went (60 ∷ b ∷ [])) (b == 63) _ _ (λ e. rw (equal b 63 e) (at_instruction [] (λ rest. refl)))
-            (λ _. tt))))
+    (λ _. choose (Went (60 ∷ b ∷ [])) (b == 47) _ _ (λ e. rw (equal b 47 e) at_end_opened)
+    (λ _. choose (Went (60 ∷ b ∷ [])) (b == 33) _ _ (λ e. rw (equal b 33 e) at_bang)
+    (λ _. choose (Went (60 ∷ b ∷ [])) (b == 63) _ _ (λ e. rw (equal b 63 e) (at_instruction [] (λ rest. refl)))
+    (λ _. tt))))
 item_step b (at_instruction body up) =
     choose (Went (60 ∷ 63 ∷ (body ++ (b ∷ [])))) (b == 63) _ _
-      (λ e. at_question (body ++ (b ∷ [])) (λ rest. rw (append_assoc body (b ∷ []) rest, up (b ∷ rest), equal b 63 e) refl))
-      (λ e. at_instruction (body ++ (b ∷ [])) (λ rest. rw (append_assoc body (b ∷ []) rest, up (b ∷ rest), e) refl))
+    (λ e. at_question (body ++ (b ∷ [])) (λ rest. rw (append_assoc body (b ∷ []) rest, up (b ∷ rest), equal b 63 e) refl))
+    (λ e. at_instruction (body ++ (b ∷ [])) (λ rest. rw (append_assoc body (b ∷ []) rest, up (b ∷ rest), e) refl))
 item_step b (at_question body up) =
     choose (Went (60 ∷ 63 ∷ (body ++ (b ∷ [])))) (b == 62) _ _
-      (λ e. is_instruction (body ++ (b ∷ [])) (up (b ∷ []) ∙ rw (equal b 62 e) refl))
-      (λ n. choose (Went (60 ∷ 63 ∷ (body ++ (b ∷ [])))) (b == 63) _ _
-        (λ e. at_question (body ++ (b ∷ [])) (λ rest. rw (append_assoc body (b ∷ []) rest, up (b ∷ rest), equal b 63 e) refl))
-        (λ e. at_instruction (body ++ (b ∷ [])) (λ rest. rw (append_assoc body (b ∷ []) rest, up (b ∷ rest), n, e) refl)))
+    (λ e. is_instruction (body ++ (b ∷ [])) (up (b ∷ []) ∙ rw (equal b 62 e) refl))
+    (λ n. choose (Went (60 ∷ 63 ∷ (body ++ (b ∷ [])))) (b == 63) _ _
+    (λ e. at_question (body ++ (b ∷ [])) (λ rest. rw (append_assoc body (b ∷ []) rest, up (b ∷ rest), equal b 63 e) refl))
+    (λ e. at_instruction (body ++ (b ∷ [])) (λ rest. rw (append_assoc body (b ∷ []) rest, up (b ∷ rest), n, e) refl)))
 item_step b at_bang =
     choose (Went (60 ∷ 33 ∷ b ∷ [])) (b == 45) _ _ (λ e. rw (equal b 45 e) at_bang_dash)
-      (λ _. choose (Went (60 ∷ 33 ∷ b ∷ [])) (b == 68) _ _ (λ e. rw (equal b 68 e) (at_word [] doctype_letters refl)) (λ _. tt))
+    (λ _. choose (Went (60 ∷ 33 ∷ b ∷ [])) (b == 68) _ _ (λ e. rw (equal b 68 e) (at_word [] doctype_letters refl)) (λ _. tt))
 item_step b at_bang_dash = choose (Went (60 ∷ 33 ∷ 45 ∷ b ∷ [])) (b == 45) _ _ (λ e. rw (equal b 45 e) (at_comment [] (λ rest. refl))) (λ _. tt)
 item_step b (at_comment body up) =
     choose (Went (60 ∷ 33 ∷ 45 ∷ 45 ∷ (body ++ (b ∷ [])))) (b == 45) _ _
-      (λ e. at_dash (body ++ (b ∷ [])) (λ rest. rw (append_assoc body (b ∷ []) rest, up (b ∷ rest), equal b 45 e) refl))
-      (λ e. at_comment (body ++ (b ∷ [])) (λ rest. rw (append_assoc body (b ∷ []) rest, up (b ∷ rest), e) refl))
+    (λ e. at_dash (body ++ (b ∷ [])) (λ rest. rw (append_assoc body (b ∷ []) rest, up (b ∷ rest), equal b 45 e) refl))
+    (λ e. at_comment (body ++ (b ∷ [])) (λ rest. rw (append_assoc body (b ∷ []) rest, up (b ∷ rest), e) refl))
 item_step b (at_dash body up) =
     choose (Went (60 ∷ 33 ∷ 45 ∷ 45 ∷ (body ++ (b ∷ [])))) (b == 45) _ _
-      (λ e. at_dashes (body ++ (b ∷ [])) (λ rest. rw (append_assoc body (b ∷ []) rest, up (b ∷ rest), equal b 45 e) refl))
-      (λ e. at_comment (body ++ (b ∷ [])) (λ rest. rw (append_assoc body (b ∷ []) rest, up (b ∷ rest), e) refl))
+    (λ e. at_dashes (body ++ (b ∷ [])) (λ rest. rw (append_assoc body (b ∷ []) rest, up (b ∷ rest), equal b 45 e) refl))
+    (λ e. at_comment (body ++ (b ∷ [])) (λ rest. rw (append_assoc body (b ∷ []) rest, up (b ∷ rest), e) refl))
 item_step b (at_dashes body up) =
     choose (Went (60 ∷ 33 ∷ 45 ∷ 45 ∷ (body ++ (b ∷ [])))) (b == 62) _ _
-      (λ e. is_comment (body ++ (b ∷ [])) (up (b ∷ []) ∙ rw (equal b 62 e) refl))
-      (λ n. choose (Went (60 ∷ 33 ∷ 45 ∷ 45 ∷ (body ++ (b ∷ [])))) (b == 45) _ _
-        (λ e. at_dashes (body ++ (b ∷ [])) (λ rest. rw (append_assoc body (b ∷ []) rest, up (b ∷ rest), equal b 45 e) refl))
-        (λ e. at_comment (body ++ (b ∷ [])) (λ rest. rw (append_assoc body (b ∷ []) rest, up (b ∷ rest), n, e) refl)))
+    (λ e. is_comment (body ++ (b ∷ [])) (up (b ∷ []) ∙ rw (equal b 62 e) refl))
+    (λ n. choose (Went (60 ∷ 33 ∷ 45 ∷ 45 ∷ (body ++ (b ∷ [])))) (b == 45) _ _
+    (λ e. at_dashes (body ++ (b ∷ [])) (λ rest. rw (append_assoc body (b ∷ []) rest, up (b ∷ rest), equal b 45 e) refl))
+    (λ e. at_comment (body ++ (b ∷ [])) (λ rest. rw (append_assoc body (b ∷ []) rest, up (b ∷ rest), n, e) refl)))
 item_step b (at_word read [] is) =
     choose (Went (60 ∷ 33 ∷ 68 ∷ (read ++ (b ∷ [])))) (is_blank b) _ _
-      (λ e. let whole : read ≡ doctype_letters = sym (append-nil read) ∙ is in rw whole (at_doctype b [] e tt))
-      (λ _. tt)
+    (λ e. let whole : read ≡ doctype_letters = sym (append-nil read) ∙ is in rw whole (at_doctype b [] e tt))
+    (λ _. tt)
 item_step b (at_word read (c ∷ rest) is) =
     choose (Went (60 ∷ 33 ∷ 68 ∷ (read ++ (b ∷ [])))) (b == c) _ _
-      (λ e. at_word (read ++ (b ∷ [])) rest (rw (append_assoc read (b ∷ []) rest, equal b c e) is))
-      (λ _. tt)
+    (λ e. at_word (read ++ (b ∷ [])) rest (rw (append_assoc read (b ∷ []) rest, equal b c e) is))
+    (λ _. tt)
 item_step b (at_doctype blank body is are) =
     choose (Went (60 ∷ 33 ∷ 68 ∷ 79 ∷ 67 ∷ 84 ∷ 89 ∷ 80 ∷ 69 ∷ blank ∷ (body ++ (b ∷ [])))) (b == 62) _ _
-      (λ e. rw (equal b 62 e) (is_doctype blank body is are))
-      (λ _. choose (Went (60 ∷ 33 ∷ 68 ∷ 79 ∷ 67 ∷ 84 ∷ 89 ∷ 80 ∷ 69 ∷ blank ∷ (body ++ (b ∷ [])))) (is_doctype_byte b) _ _
-        (λ e. at_doctype blank (body ++ (b ∷ [])) is (all_push is_doctype_byte body b are e))
-        (λ _. tt))
+    (λ e. rw (equal b 62 e) (is_doctype blank body is are))
+    (λ _. choose (Went (60 ∷ 33 ∷ 68 ∷ 79 ∷ 67 ∷ 84 ∷ 89 ∷ 80 ∷ 69 ∷ blank ∷ (body ++ (b ∷ [])))) (is_doctype_byte b) _ _
+    (λ e. at_doctype blank (body ++ (b ∷ [])) is (all_push is_doctype_byte body b are e))
+    (λ _. tt))
 item_step b (at_name n is) =
     choose (Went (60 ∷ (n ++ (b ∷ [])))) (is_name_byte b) _ _
-      (λ e. at_name (n ++ (b ∷ [])) (name_push n b is e))
-      (λ _. tag_on_went (60 ∷ n) (record { name = n; attributes = [] }) [] b (head_name n is) tt)
+    (λ e. at_name (n ++ (b ∷ [])) (name_push n b is e))
+    (λ _. tag_on_went (60 ∷ n) (record { name = n; attributes = [] }) [] b (head_name n is) tt)
 item_step b (at_gap head tag blanks is some are) =
     rw (append_assoc head blanks (b ∷ [])) (choose (Went (head ++ (blanks ++ (b ∷ [])))) (is_name_start b) _ _
-      (λ e. at_attribute head tag blanks (b ∷ []) is some are (e, tt))
-      (λ _. tag_on_went head tag blanks b is are))
+    (λ e. at_attribute head tag blanks (b ∷ []) is some are (e, tt))
+    (λ _. tag_on_went head tag blanks b is are))
 item_step b (at_slash head tag blanks is are) =
     rw (append_assoc head (blanks ++ (47 ∷ [])) (b ∷ []), append_assoc blanks (47 ∷ []) (b ∷ [])) (choose (Went (head ++ (blanks ++ (47 ∷ b ∷ [])))) (b == 62) _ _
-      (λ e. rw (equal b 62 e) (is_empty head tag blanks is are))
-      (λ _. tt))
+    (λ e. rw (equal b 62 e) (is_empty head tag blanks is are))
+    (λ _. tt))
 item_step b (at_attribute head tag blanks name is some are named) =
     rw (append_assoc head (blanks ++ name) (b ∷ [])) (choose (Went (head ++ (blanks ++ name ++ (b ∷ [])))) (is_name_byte b) _ _
-      (λ e. rw (append_assoc blanks name (b ∷ [])) (at_attribute head tag blanks (name ++ (b ∷ [])) is some are (name_push name b named e)))
-      (λ _. name_on_went head tag blanks name [] b is some are named tt))
+    (λ e. rw (append_assoc blanks name (b ∷ [])) (at_attribute head tag blanks (name ++ (b ∷ [])) is some are (name_push name b named e)))
+    (λ _. name_on_went head tag blanks name [] b is some are named tt))
 item_step b (at_attribute_gap head tag blanks name before is some are named befores) =
     rw (append_assoc head (blanks ++ name ++ before) (b ∷ []), append_assoc (blanks ++ name) before (b ∷ [])) (name_on_went head tag blanks name before b is some are named befores)
 item_step b (at_equals head tag blanks name before after is some are named befores afters) =
     rw (append_assoc head (blanks ++ name ++ before ++ (61 ∷ after)) (b ∷ [])) (choose (Went (head ++ (blanks ++ name ++ before ++ (61 ∷ after) ++ (b ∷ [])))) (is_blank b) _ _
-      (λ e. rw (append_assoc (blanks ++ name ++ before) (61 ∷ after) (b ∷ [])) (at_equals head tag blanks name before (after ++ (b ∷ [])) is some are named befores (all_push is_blank after b afters e)))
-      (λ _. choose (Went (head ++ (blanks ++ name ++ before ++ (61 ∷ after) ++ (b ∷ [])))) (is_quote b) _ _
-        (λ e. rw (← append-nil (blanks ++ name ++ before ++ (61 ∷ after) ++ (b ∷ []))) (at_value head tag b name (blanks ++ name ++ before ++ (61 ∷ after) ++ (b ∷ [])) [] [] 0 is (record { blanks = blanks; before = before; after = after; some = some; are_blanks = are; is_name = named; are_before = befores; are_after = afters; is_quote = e; spelled = refl }) (no_byte b) refl))
-        (λ _. tt)))
+    (λ e. rw (append_assoc (blanks ++ name ++ before) (61 ∷ after) (b ∷ [])) (at_equals head tag blanks name before (after ++ (b ∷ [])) is some are named befores (all_push is_blank after b afters e)))
+    (λ _. choose (Went (head ++ (blanks ++ name ++ before ++ (61 ∷ after) ++ (b ∷ [])))) (is_quote b) _ _
+    (λ e. rw (← append-nil (blanks ++ name ++ before ++ (61 ∷ after) ++ (b ∷ []))) (at_value head tag b name (blanks ++ name ++ before ++ (61 ∷ after) ++ (b ∷ [])) [] [] 0 is (record { blanks = blanks; before = before; after = after; some = some; are_blanks = are; is_name = named; are_before = befores; are_after = afters; is_quote = e; spelled = refl }) (no_byte b) refl))
+    (λ _. tt)))
 item_step b (at_value head tag quote name opening raw value count is opens raws counts) =
     rw (append_assoc head (opening ++ raw) (b ∷ [])) (choose (Went (head ++ (opening ++ raw ++ (b ∷ [])))) (b == quote) _ _
-      (λ e. rw (equal b quote e) (at_behind (head ++ (opening ++ raw ++ (quote ∷ []))) (with_attribute tag name value) (head_more head tag quote name opening raw value is opens raws)))
-      (λ other. rw (append_assoc opening raw (b ∷ [])) (choose (Went (head ++ (opening ++ (raw ++ (b ∷ []))))) (b == 38) _ _
-        (λ e. at_refer head tag quote name opening raw value (b ∷ []) (count + 1) Ampersand is opens raws (rw (equal b 38 e) ref_ampersand) (rw (length-push raw b, counts) refl))
-        (λ plain. choose (Went (head ++ (opening ++ (raw ++ (b ∷ []))))) (b == 60) _ _
-          (λ _. tt)
-          (λ open_. at_value head tag quote name opening (raw ++ (b ∷ [])) (value ++ (spaced b ∷ [])) (count + 1) is opens (and_byte quote raw value b raws (value_byte b quote other plain open_)) (rw (length-push raw b, counts) refl))))))
+    (λ e. rw (equal b quote e) (at_behind (head ++ (opening ++ raw ++ (quote ∷ []))) (with_attribute tag name value) (head_more head tag quote name opening raw value is opens raws)))
+    (λ other. rw (append_assoc opening raw (b ∷ [])) (choose (Went (head ++ (opening ++ (raw ++ (b ∷ []))))) (b == 38) _ _
+    (λ e. at_refer head tag quote name opening raw value (b ∷ []) (count + 1) Ampersand is opens raws (rw (equal b 38 e) ref_ampersand) (rw (length-push raw b, counts) refl))
+    (λ plain. choose (Went (head ++ (opening ++ (raw ++ (b ∷ []))))) (b == 60) _ _
+    (λ _. tt)
+    (λ open_. at_value head tag quote name opening (raw ++ (b ∷ [])) (value ++ (spaced b ∷ [])) (count + 1) is opens (and_byte quote raw value b raws (value_byte b quote other plain open_)) (rw (length-push raw b, counts) refl))))))
 item_step b (at_refer head tag quote name opening raw value part count r is opens raws ref counts) =
     rw (append_assoc head (opening ++ (raw ++ part)) (b ∷ []), append_assoc opening (raw ++ part) (b ∷ []), append_assoc raw part (b ∷ [])) (refer_went head tag quote name opening raw value count is opens raws part r b ref counts)
 item_step b (at_behind head tag is) = tag_on_went head tag [] b is tt
 item_step b at_end_opened = choose (Went (60 ∷ 47 ∷ b ∷ [])) (is_name_start b) _ _ (λ e. at_end_name (b ∷ []) (e, tt)) (λ _. tt)
 item_step b (at_end_name n is) =
     choose (Went (60 ∷ 47 ∷ (n ++ (b ∷ [])))) (is_name_byte b) _ _
-      (λ e. at_end_name (n ++ (b ∷ [])) (name_push n b is e))
-      (λ _. end_on_went n [] b is tt)
+    (λ e. at_end_name (n ++ (b ∷ [])) (name_push n b is e))
+    (λ _. end_on_went n [] b is tt)
 item_step b (at_end_gap n blanks is are) = rw (append_assoc n blanks (b ∷ [])) (end_on_went n blanks b is are)

@@ -51,10 +51,14 @@ with_child_of tag line children e = rw out-roll-Element refl
 -- one more passed item
 behind_passed : (items : List Placed) (root : Element) (item : Item) (line : ℕ) → IsDocument items root → is_passed false item ≡ true → Stands (items ++ ((item, line) ∷ [])) (state [] (Some root))
 behind_passed items root item line is passed = behind_root (items ++ ((item, line) ∷ [])) root (record {
-  before = is.before; one = is.one; behind = is.behind ++ ((item, line) ∷ []);
-  are_before = is.are_before; is_root = is.is_root;
+  before = is.before;
+  one = is.one;
+  behind = is.behind ++ ((item, line) ∷ []);
+  are_before = is.are_before;
+  is_root = is.is_root;
   are_behind = placed_push is_behind_root is.behind (item, line) is.are_behind passed;
-  joined = rw (is.joined) (append_assoc (is.before ++ is.one) is.behind ((item, line) ∷ [])) })
+  joined = rw (is.joined) (append_assoc (is.before ++ is.one) is.behind ((item, line) ∷ []));
+})
 
 open_passed : {room : ℕ} {items : List Placed} {es : List Element} (item : Item) (line : ℕ) → IsOpen room items es → is_passed (in_label es) item ≡ true → IsOpen room (items ++ ((item, line) ∷ [])) es
 open_passed item line (open_root before tag at inside children are within) passed =
@@ -88,12 +92,12 @@ put_empty (suc room) tag line is short = open_put ((Empty tag, line) ∷ []) (el
 close : {room : ℕ} {items : List Placed} {es : List Element} (name : List ℕ) (line : ℕ) → IsOpen room items es → StandsAt (items ++ ((End name, line) ∷ [])) (closed_in name es None)
 close name line (open_root before tag at inside children are within) =
     rw (tag_of tag at children) (choose (StandsAt ((before ++ ((Start tag, at) ∷ inside)) ++ ((End name, line) ∷ []))) (bytes_eq tag.name name) _ _
-      (λ e. rw (append_assoc before ((Start tag, at) ∷ inside) ((End name, line) ∷ [])) (root_put before ((Start tag, at) ∷ (inside ++ ((End name, line) ∷ []))) (element_of tag at children) are (is_around 63 tag at inside children name line within e)))
-      (λ _. tt))
+    (λ e. rw (append_assoc before ((Start tag, at) ∷ inside) ((End name, line) ∷ [])) (root_put before ((Start tag, at) ∷ (inside ++ ((End name, line) ∷ []))) (element_of tag at children) are (is_around 63 tag at inside children name line within e)))
+    (λ _. tt))
 close name line (open_under room outer es tag at inside children around within) =
     rw (tag_of tag at children) (choose (StandsAt ((outer ++ ((Start tag, at) ∷ inside)) ++ ((End name, line) ∷ []))) (bytes_eq tag.name name) _ _
-      (λ e. rw (append_assoc outer ((Start tag, at) ∷ inside) ((End name, line) ∷ [])) (open_put ((Start tag, at) ∷ (inside ++ ((End name, line) ∷ []))) (element_of tag at children) around (is_around room tag at inside children name line within e)))
-      (λ _. tt))
+    (λ e. rw (append_assoc outer ((Start tag, at) ∷ inside) ((End name, line) ∷ [])) (open_put ((Start tag, at) ∷ (inside ++ ((End name, line) ∷ []))) (element_of tag at children) around (is_around room tag at inside children name line within e)))
+    (λ _. tt))
 
 open_some : {room : ℕ} {items : List Placed} {es : List Element} → IsOpen room items es → is_some_open es ≡ true
 open_some (open_root before tag at inside children are within) = refl
@@ -129,11 +133,19 @@ Grows room extra = (in_label' : Bool) (inside : List Placed) (children : List El
 
 close_all : {room : ℕ} {items : List Placed} {es : List Element} (extra : List Placed) → Grows room extra → IsOpen room items es → IsDocumentFront (items ++ extra)
 close_all extra grows (open_root before tag at inside children are within) =
-    let more = grows (is_label tag.name) inside children within in
-    ((End tag.name, 0) ∷ [], element_of tag at more.0, record {
-      before = before; one = (Start tag, at) ∷ ((inside ++ extra) ++ ((End tag.name, 0) ∷ [])); behind = [];
-      are_before = are; is_root = is_around 63 tag at (inside ++ extra) more.0 tag.name 0 more.1 (same_bytes tag.name); are_behind = tt;
-      joined = rw (append_assoc before ((Start tag, at) ∷ inside) extra, append_assoc before ((Start tag, at) ∷ (inside ++ extra)) ((End tag.name, 0) ∷ [])) (sym (append-nil (before ++ ((Start tag, at) ∷ ((inside ++ extra) ++ ((End tag.name, 0) ∷ [])))))) })
+    let more = grows (is_label tag.name) inside children within in (
+      (End tag.name, 0) ∷ [],
+      element_of tag at more.0,
+      record {
+        before = before;
+        one = (Start tag, at) ∷ ((inside ++ extra) ++ ((End tag.name, 0) ∷ []));
+        behind = [];
+        are_before = are;
+        is_root = is_around 63 tag at (inside ++ extra) more.0 tag.name 0 more.1 (same_bytes tag.name);
+        are_behind = tt;
+        joined = rw (append_assoc before ((Start tag, at) ∷ inside) extra, append_assoc before ((Start tag, at) ∷ (inside ++ extra)) ((End tag.name, 0) ∷ [])) (sym (append-nil (before ++ ((Start tag, at) ∷ ((inside ++ extra) ++ ((End tag.name, 0) ∷ []))))));
+      },
+    )
 close_all extra grows (open_under room outer es tag at inside children around within) =
     let more = grows (is_label tag.name) inside children within in
     let one = (Start tag, at) ∷ ((inside ++ extra) ++ ((End tag.name, 0) ∷ [])) in
@@ -185,10 +197,10 @@ mutual
   elements_nest (no_element room label) tag is line before es fits = rw (append-nil before) refl
   elements_nest (and_passed room label items children item at are passed) tag is line before es fits =
       nests_then items ((item, at) ∷ []) _ (state (element_of tag line (before ++ children) ∷ es) None) _ (elements_nest are tag is line before es fits)
-        (rw (passed_nest item at (element_of tag line (before ++ children) ∷ es) None (rw (label_of tag line (before ++ children) es, is) passed)) refl)
+      (rw (passed_nest item at (element_of tag line (before ++ children) ∷ es) None (rw (label_of tag line (before ++ children) es, is) passed)) refl)
   elements_nest (and_element room label items children one e are is_one) tag is line before es fits =
       nests_then items one _ (state (element_of tag line (before ++ children) ∷ es) None) _ (elements_nest are tag is line before es fits)
-        (element_nests is_one (element_of tag line (before ++ children) ∷ es) fits ∙ rw (with_child_of tag line (before ++ children) e, append_assoc before children (e ∷ [])) refl)
+      (element_nests is_one (element_of tag line (before ++ children) ∷ es) fits ∙ rw (with_child_of tag line (before ++ children) e, append_assoc before children (e ∷ [])) refl)
 
 before_nest : (item : Item) (line : ℕ) → is_before_root (item, line) ≡ true → nest item line (state [] None) ≡ Some (state [] None)
 before_nest Doctype line h = refl
@@ -210,5 +222,5 @@ behind_nests root ((item, line) ∷ items) are = rw (passed_nest item line [] (S
 pub document_nests : {items : List Placed} {root : Element} → IsDocument items root → nests items at_start ≡ Some (state [] (Some root))
 document_nests {items} {root} is =
     rw is.joined (nests_then (is.before ++ is.one) is.behind at_start (state [] (Some root)) _
-      (nests_then is.before is.one at_start at_start _ (before_nests is.before is.are_before) (element_nests is.is_root [] (omega arith)))
-      (behind_nests root is.behind is.are_behind))
+    (nests_then is.before is.one at_start at_start _ (before_nests is.before is.are_before) (element_nests is.is_root [] (omega arith)))
+    (behind_nests root is.behind is.are_behind))

@@ -90,7 +90,7 @@ impl Builder {
     }
 
     /// Whether the innermost open element is a label.
-    fn is_in_label(&self) -> bool
+    pub fn is_in_label(&self) -> bool
         ensures { result ≡ in_label (state_of self.now).open_elements }
     {
         match self.open_elements.as_slice() {

@@ -9,6 +9,7 @@ mod scanner_item;
 mod scanner_lexer;
 mod scanner_mark;
 mod scanner_place;
+mod scanner_quiet;
 mod scanner_state;
 mod text;
 mod token;

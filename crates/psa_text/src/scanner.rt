@@ -1,20 +1,21 @@
 ghost use Rattle.std.specs.Prelude.{◌≡◌, ◌++◌, ◌<◌, [], List, ℕ, None, Ok, Err, IfErr};
 ghost use Rattle.psa_text.specs.declared.scanner_error.TextError.{TextError};
-ghost use Rattle.psa_text.specs.ScannerState.{Answers, Ends, HasFailed, HasRead, Passes, Steps, item_stepped, marked, on_nested, scan_of, stepped};
+ghost use Rattle.psa_text.specs.ScannerState.{Answers, Counts, Ends, HasFailed, HasRead, Passes, Quiets, Steps, item_stepped, marked, on_nested, quiet_of, scan_of, stepped};
 ghost use Rattle.psa_text.specs.ScannerMachine as machine;
 ghost use Rattle.psa_text.specs.ScannerNesting.{nest};
 ghost use Rattle.psa_text.specs.ScannerView.{lex_of};
 ghost use Rattle.psa_text.specs.Nesting.{state_of};
 ghost use Rattle.psa_text.specs.TextFaults as faults;
 
+use crate::Document;
 use crate::builder::Builder;
 use crate::scanner_error::{TextError, TextFault, TextKind};
 use crate::scanner_item::Item;
 use crate::scanner_lexer::{Lexer, TokenError};
 use crate::scanner_mark::Mark;
+use crate::scanner_quiet::Quiet;
 use crate::scanner_state::Scanner;
 use crate::token::StepError;
-use crate::Document;
 use std::alloc::Global;
 
 /// The greatest number of bytes of a text.
@@ -50,11 +51,17 @@ impl Scanner {
         if let Some(error) = self.failed {
             return Err(error);
         }
+        let mut quiet = self.quiet();
         for byte in piece {
+            if quiet.passes(*byte) && self.count < MAX_BYTES {
+                self.pass_quiet(*byte);
+                continue;
+            }
             if let Err(error) = self.step(*byte) {
                 self.failed = Some(error);
                 return Err(error);
             }
+            quiet = self.quiet();
         }
         Ok(())
     }
@@ -73,6 +80,36 @@ impl Scanner {
         match self.builder.finish() {
             Some(root) => Ok(Document { root }),
             None => Err(fault(TextKind::BadNesting, self.line)),
+        }
+    }
+
+    /// The bytes that change nothing but the counts here.
+    fn quiet(&self) -> Quiet
+        ensures { result ≡ quiet_of (scan_of self.now) }
+    {
+        if !matches!(self.mark, Mark::Passed) {
+            Quiet::Nothing
+        } else if self.lexer.is_in_comment() {
+            Quiet::AllBut(b'-')
+        } else if self.lexer.is_in_instruction() {
+            Quiet::AllBut(b'?')
+        } else if !self.lexer.is_between() {
+            Quiet::Nothing
+        } else if self.builder.is_in_label() {
+            Quiet::AllBut(b'<')
+        } else {
+            Quiet::Blanks
+        }
+    }
+
+    /// Counts a byte that changes nothing else.
+    fn pass_quiet(&mut self, byte: u8)
+        requires { self.old.count < 67108864 }
+        ensures { Quiets byte self.old self.new }
+    {
+        self.count_byte(byte);
+        if self.lexer.is_between() {
+            self.start = self.line;
         }
     }
 
@@ -145,12 +182,20 @@ impl Scanner {
         }
     }
 
-    /// Counts a byte and its line.
+    /// Counts a byte behind any byte order mark.
     fn pass(&mut self, byte: u8)
         requires { self.old.count < 67108864 }
         ensures { Passes byte self.old self.new }
     {
         self.mark = Mark::Passed;
+        self.count_byte(byte);
+    }
+
+    /// Counts a byte and its line.
+    fn count_byte(&mut self, byte: u8)
+        requires { self.old.count < 67108864 }
+        ensures { Counts byte self.old self.new }
+    {
         self.count += 1;
         if byte == b'\n' {
             self.line += 1;

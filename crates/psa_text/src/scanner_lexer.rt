@@ -6,7 +6,10 @@ ghost use Rattle.psa_text.specs.declared.scanner_place.Reference.TheVariants as 
 ghost use Rattle.psa_text.specs.ScannerMachine as machine;
 ghost use Rattle.psa_text.specs.ScannerView.{EndsNumber, EndsReference, EndsValue, Goes, HasReferenceRoom, PushesName, Refers, judge, judged, lex_of};
 
-use crate::scanner_bytes::{decimal_digit, hexadecimal_digit, is_blank, is_name_byte, is_name_start, text_of, trimmed, with_digit};
+use crate::scanner_bytes::{
+    decimal_digit, hexadecimal_digit, is_blank, is_name_byte, is_name_start, text_of, trimmed,
+    with_digit,
+};
 use crate::scanner_item::Item;
 use crate::scanner_place::{Entity, Place, Reference};
 use crate::token::Tag;
@@ -99,6 +102,20 @@ impl Lexer {
         ensures { result ≡ machine.is_between (lex_of self.now) }
     {
         matches!(self.place, Place::Between)
+    }
+
+    /// Whether it stands among the bytes of a comment.
+    pub fn is_in_comment(&self) -> bool
+        ensures { result ≡ machine.is_in_comment (lex_of self.now) }
+    {
+        matches!(self.place, Place::Comment)
+    }
+
+    /// Whether it stands among the bytes of an instruction.
+    pub fn is_in_instruction(&self) -> bool
+        ensures { result ≡ machine.is_in_instruction (lex_of self.now) }
+    {
+        matches!(self.place, Place::Instruction)
     }
 
     /// Whether the byte begins the name of a start or empty tag.
@@ -229,7 +246,11 @@ impl Lexer {
         requires { self.old.place ≡ place.Dash }
         ensures { Goes (judge (lex_of self.old) byte) self.new result }
     {
-        self.place = if byte == b'-' { Place::DashDash } else { Place::Comment };
+        self.place = if byte == b'-' {
+            Place::DashDash
+        } else {
+            Place::Comment
+        };
         Ok(None)
     }
 

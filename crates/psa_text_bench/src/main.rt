@@ -3,17 +3,19 @@
 #![tactic(auto)]
 
 use psa_text::{Scanner, TextError, TextFault, TextKind};
-use std::env;
-use std::io;
 use std::io::{Read, Write};
+use std::{env, io};
 
 /// How many bytes are read at once.
 const PIECE: usize = 65_536;
 
 fn main(rt: HostRuntime) -> io::Result<()> {
-    let words = env::args(&rt)?;
+    let mut words = Vec::new(rt.alloc());
+    for word in env::args(&rt)?.skip(1) {
+        words.push(word)?;
+    }
     match words.as_slice() {
-        [_, word, count] if word.as_str() == "generate" => match count.as_str().parse::<u32>() {
+        [word, count] if word.as_str() == "generate" => match count.as_str().parse::<u32>() {
             Ok(count) => generate(&mut rt.stdout(), count),
             Err(_) => println!(rt; "no number of gates: {count}"),
         },
@@ -25,7 +27,9 @@ fn main(rt: HostRuntime) -> io::Result<()> {
 fn generate<W: Write>(out: &mut W, count: u32) -> io::Result<()> {
     out.write_all(b"<?xml version=\"1.0\"?>\n<opsa-mef name=\"generated\">\n")?;
     for _ in 0..count {
-        out.write_all(b"  <define-gate name=\"Gate\">\n    <label>A gate of the generated model, with a few words of text.</label>\n    <and>\n      <basic-event name=\"PumpOne\"/>\n      <basic-event name=\"Valve&amp;Two\"/>\n    </and>\n  </define-gate>\n  <!-- between two gates -->\n")?;
+        out.write_all(
+            b"  <define-gate name=\"Gate\">\n    <label>A gate of the generated model, with a few words of text.</label>\n    <and>\n      <basic-event name=\"PumpOne\"/>\n      <basic-event name=\"Valve&amp;Two\"/>\n    </and>\n  </define-gate>\n  <!-- between two gates -->\n",
+        )?;
     }
     out.write_all(b"</opsa-mef>\n")
 }
