@@ -101,30 +101,31 @@ fn reads_a_model_in_any_pieces(rt: HostRuntime) {
     }
 }
 
+const TREES: [(&str, &str); 16] = [
+    ("<opsa-mef/>", "opsa-mef@1{}"),
+    ("\u{FEFF}<a/>", "a@1{}"),
+    ("\n<a>\r\n<b></b >\r<c/></a>\n\n", "a@2{b@3{}c@3{}}"),
+    ("<a b=\" x \" c = 'y'\n/>", "a@1 b=x c=y{}"),
+    ("<a b='\t\n\r'/>", "a@1 b={}"),
+    ("<a b='1\t2\n3\r4'/>", "a@1 b=1 2 3 4{}"),
+    ("<a b='&#32;x&#x20;'/>", "a@1 b=x{}"),
+    ("<a b='&#9;x&#10;&#13;'/>", "a@1 b=\tx\n\r{}"),
+    ("<a b='&#xA0;x'/>", "a@1 b=\u{A0}x{}"),
+    ("<a b='&lt;&gt;&amp;&quot;&apos;'/>", "a@1 b=<>&\"'{}"),
+    (
+        "<a b='&#00000065;&#x10FFFF;&#xfFfD;'/>",
+        "a@1 b=A\u{10FFFF}\u{FFFD}{}",
+    ),
+    ("<a b='>'/>", "a@1 b=>{}"),
+    ("<:_\u{E9}-.1/>", ":_\u{E9}-.1@1{}"),
+    ("<label>x<b> </b>y</label>", "label@1{b@1{}}"),
+    ("<?><?><a/><!-->--><!---> -->", "a@1{}"),
+    ("<!DOCTYPE a \"x\"><!DOCTYPE\tb><a/>", "a@1{}"),
+];
+
 #[test]
 fn reads_trees(rt: HostRuntime) {
-    let cases = [
-        ("<opsa-mef/>", "opsa-mef@1{}"),
-        ("\u{FEFF}<a/>", "a@1{}"),
-        ("\n<a>\r\n<b></b >\r<c/></a>\n\n", "a@2{b@3{}c@3{}}"),
-        ("<a b=\" x \" c = 'y'\n/>", "a@1 b=x c=y{}"),
-        ("<a b='\t\n\r'/>", "a@1 b={}"),
-        ("<a b='1\t2\n3\r4'/>", "a@1 b=1 2 3 4{}"),
-        ("<a b='&#32;x&#x20;'/>", "a@1 b=x{}"),
-        ("<a b='&#9;x&#10;&#13;'/>", "a@1 b=\tx\n\r{}"),
-        ("<a b='&#xA0;x'/>", "a@1 b=\u{A0}x{}"),
-        ("<a b='&lt;&gt;&amp;&quot;&apos;'/>", "a@1 b=<>&\"'{}"),
-        (
-            "<a b='&#00000065;&#x10FFFF;&#xfFfD;'/>",
-            "a@1 b=A\u{10FFFF}\u{FFFD}{}",
-        ),
-        ("<a b='>'/>", "a@1 b=>{}"),
-        ("<:_\u{E9}-.1/>", ":_\u{E9}-.1@1{}"),
-        ("<label>x<b> </b>y</label>", "label@1{b@1{}}"),
-        ("<?><?><a/><!-->--><!---> -->", "a@1{}"),
-        ("<!DOCTYPE a \"x\"><!DOCTYPE\tb><a/>", "a@1{}"),
-    ];
-    for (text, tree) in cases {
+    for (text, tree) in TREES {
         assert_eq!(rt;
             read(rt.alloc(), text.as_bytes(), 1).unwrap().as_str(),
             tree,
@@ -138,57 +139,58 @@ fn reads_trees(rt: HostRuntime) {
     }
 }
 
+const FAULTS: [(&[u8], &str); 46] = [
+    (b"", "bad nesting 1"),
+    (b"\xEF", "bad nesting 1"),
+    (b"\xEF\xBB", "bad nesting 1"),
+    (b"\xEF\xBB\xBF", "bad nesting 1"),
+    (b"\xEF<a/>", "bad nesting 1 at 2"),
+    (b"\xEF\xBB\n", "bad nesting 1 at 3"),
+    (b"\xBB", "bad nesting 1 at 1"),
+    (b"\n\xEF\xBB\xBF", "bad nesting 2 at 2"),
+    (b"\x1F\x8B", "bad nesting 1 at 1"),
+    (b"<opsa-mef name=\"x", "bad markup 1"),
+    (b"\n<a\n\n", "bad markup 2"),
+    (b"<a>\n\n", "bad nesting 3"),
+    (b"<a>\n</b>", "bad nesting 2 at 8"),
+    (b"</a>", "bad nesting 1 at 4"),
+    (b"<a/><b/>", "bad nesting 1 at 8"),
+    (b"<a/>\n<b><", "bad nesting 2 at 8"),
+    (b"<a/><!DOCTYPE a>", "bad nesting 1 at 16"),
+    (b"<a>x", "bad nesting 1 at 4"),
+    (b"<a>\n\n x", "bad nesting 3 at 7"),
+    (b"<label><b>x", "bad nesting 1 at 11"),
+    (b"<a/>x", "bad nesting 1 at 5"),
+    (b"<a/>\0", "bad nesting 1 at 5"),
+    (b"<a/><b x='<", "bad markup 1 at 11"),
+    (b"< a", "bad markup 1 at 2"),
+    (b"<1", "bad markup 1 at 2"),
+    (b"<a\n\n<", "bad markup 1 at 5"),
+    (b"<a/ >", "bad markup 1 at 4"),
+    (b"<a b='1'c", "bad markup 1 at 9"),
+    (b"<a b c", "bad markup 1 at 6"),
+    (b"<a b=1", "bad markup 1 at 6"),
+    (b"<!d", "bad markup 1 at 3"),
+    (b"<![", "bad markup 1 at 3"),
+    (b"<!-a", "bad markup 1 at 4"),
+    (b"<!DOCTYPE>", "bad markup 1 at 10"),
+    (b"<!DOCTYPE a [", "bad markup 1 at 13"),
+    (b"<a b='&x", "bad markup 1 at 8"),
+    (b"<a b='&amp'", "bad markup 1 at 11"),
+    (b"<a b='&#;", "bad markup 1 at 9"),
+    (b"<a b='&#x;", "bad markup 1 at 10"),
+    (b"<a b='&#123456789", "bad markup 1 at 17"),
+    (b"<a b='&#0;", "bad markup 1 at 10"),
+    (b"<a b='&#xD800;", "bad markup 1 at 14"),
+    (b"<a b='&#x110000;", "bad markup 1 at 16"),
+    (b"<a\xFF >", "bad markup 1 at 4"),
+    (b"<a b='\xC3'", "bad markup 1 at 8"),
+    (b"<a \xC3='", "bad markup 1 at 5"),
+];
+
 #[test]
 fn finds_first_faults(rt: HostRuntime) {
-    let cases: [(&[u8], &str); 46] = [
-        (b"", "bad nesting 1"),
-        (b"\xEF", "bad nesting 1"),
-        (b"\xEF\xBB", "bad nesting 1"),
-        (b"\xEF\xBB\xBF", "bad nesting 1"),
-        (b"\xEF<a/>", "bad nesting 1 at 2"),
-        (b"\xEF\xBB\n", "bad nesting 1 at 3"),
-        (b"\xBB", "bad nesting 1 at 1"),
-        (b"\n\xEF\xBB\xBF", "bad nesting 2 at 2"),
-        (b"\x1F\x8B", "bad nesting 1 at 1"),
-        (b"<opsa-mef name=\"x", "bad markup 1"),
-        (b"\n<a\n\n", "bad markup 2"),
-        (b"<a>\n\n", "bad nesting 3"),
-        (b"<a>\n</b>", "bad nesting 2 at 8"),
-        (b"</a>", "bad nesting 1 at 4"),
-        (b"<a/><b/>", "bad nesting 1 at 8"),
-        (b"<a/>\n<b><", "bad nesting 2 at 8"),
-        (b"<a/><!DOCTYPE a>", "bad nesting 1 at 16"),
-        (b"<a>x", "bad nesting 1 at 4"),
-        (b"<a>\n\n x", "bad nesting 3 at 7"),
-        (b"<label><b>x", "bad nesting 1 at 11"),
-        (b"<a/>x", "bad nesting 1 at 5"),
-        (b"<a/>\0", "bad nesting 1 at 5"),
-        (b"<a/><b x='<", "bad markup 1 at 11"),
-        (b"< a", "bad markup 1 at 2"),
-        (b"<1", "bad markup 1 at 2"),
-        (b"<a\n\n<", "bad markup 1 at 5"),
-        (b"<a/ >", "bad markup 1 at 4"),
-        (b"<a b='1'c", "bad markup 1 at 9"),
-        (b"<a b c", "bad markup 1 at 6"),
-        (b"<a b=1", "bad markup 1 at 6"),
-        (b"<!d", "bad markup 1 at 3"),
-        (b"<![", "bad markup 1 at 3"),
-        (b"<!-a", "bad markup 1 at 4"),
-        (b"<!DOCTYPE>", "bad markup 1 at 10"),
-        (b"<!DOCTYPE a [", "bad markup 1 at 13"),
-        (b"<a b='&x", "bad markup 1 at 8"),
-        (b"<a b='&amp'", "bad markup 1 at 11"),
-        (b"<a b='&#;", "bad markup 1 at 9"),
-        (b"<a b='&#x;", "bad markup 1 at 10"),
-        (b"<a b='&#123456789", "bad markup 1 at 17"),
-        (b"<a b='&#0;", "bad markup 1 at 10"),
-        (b"<a b='&#xD800;", "bad markup 1 at 14"),
-        (b"<a b='&#x110000;", "bad markup 1 at 16"),
-        (b"<a\xFF >", "bad markup 1 at 4"),
-        (b"<a b='\xC3'", "bad markup 1 at 8"),
-        (b"<a \xC3='", "bad markup 1 at 5"),
-    ];
-    for (text, fault) in cases {
+    for (text, fault) in FAULTS {
         assert_eq!(rt; read(rt.alloc(), text, 1).unwrap().as_str(), fault);
     }
 }
@@ -209,23 +211,32 @@ fn repeated(
     Ok(text)
 }
 
+const TOO_LONG: [(&str, &str, usize, &str, &str); 12] = [
+    ("<", "n", 65, "/>", "long token 1 at 66"),
+    ("<a>\n</", "n", 65, ">", "long token 2 at 71"),
+    ("<a ", "n", 65, "='x'/>", "long token 1 at 68"),
+    ("<a b='", "v", 513, "'/>", "long token 1 at 519"),
+    ("<a b='", "&#65;", 103, "'/>", "long token 1 at 519"),
+    ("<a b='", "v", 508, "&#0;'/>", "bad markup 1 at 518"),
+    ("<a b='", "v", 509, "&#0;'/>", "bad markup 1 at 519"),
+    ("<a b='", "v", 510, "&#0;'/>", "long token 1 at 519"),
+    ("<a", " b='1'", 33, "/>", "long token 1 at 196"),
+    ("", "<a>", 65, "", "bad nesting 1 at 195"),
+    ("", "<a>", 64, "<a/>", "bad nesting 1 at 196"),
+    ("", "<a>", 64, "<a b='", "bad markup 1"),
+];
+
+const LONGEST: [(&str, &str, usize, &str); 5] = [
+    ("<", "n", 64, "/>"),
+    ("<a ", "n", 64, "='x'/>"),
+    ("<a b='", "v", 512, "'/>"),
+    ("<a b='", "&#65;", 102, "xx'/>"),
+    ("<a", " b='1'", 32, "/>"),
+];
+
 #[test]
 fn keeps_limits(rt: HostRuntime) {
-    let cases = [
-        ("<", "n", 65, "/>", "long token 1 at 66"),
-        ("<a>\n</", "n", 65, ">", "long token 2 at 71"),
-        ("<a ", "n", 65, "='x'/>", "long token 1 at 68"),
-        ("<a b='", "v", 513, "'/>", "long token 1 at 519"),
-        ("<a b='", "&#65;", 103, "'/>", "long token 1 at 519"),
-        ("<a b='", "v", 508, "&#0;'/>", "bad markup 1 at 518"),
-        ("<a b='", "v", 509, "&#0;'/>", "bad markup 1 at 519"),
-        ("<a b='", "v", 510, "&#0;'/>", "long token 1 at 519"),
-        ("<a", " b='1'", 33, "/>", "long token 1 at 196"),
-        ("", "<a>", 65, "", "bad nesting 1 at 195"),
-        ("", "<a>", 64, "<a/>", "bad nesting 1 at 196"),
-        ("", "<a>", 64, "<a b='", "bad markup 1"),
-    ];
-    for (start, middle, count, end, fault) in cases {
+    for (start, middle, count, end, fault) in TOO_LONG {
         let text = repeated(rt.alloc(), start, middle, count, end).unwrap();
         assert_eq!(rt;
             read(rt.alloc(), text.as_bytes(), 1).unwrap().as_str(),
@@ -233,14 +244,7 @@ fn keeps_limits(rt: HostRuntime) {
             "{start}"
         );
     }
-    let whole = [
-        ("<", "n", 64, "/>"),
-        ("<a ", "n", 64, "='x'/>"),
-        ("<a b='", "v", 512, "'/>"),
-        ("<a b='", "&#65;", 102, "xx'/>"),
-        ("<a", " b='1'", 32, "/>"),
-    ];
-    for (start, middle, count, end) in whole {
+    for (start, middle, count, end) in LONGEST {
         let text = repeated(rt.alloc(), start, middle, count, end).unwrap();
         let read = read(rt.alloc(), text.as_bytes(), 7).unwrap();
         assert!(rt; read.as_str().ends_with("{}"), "{start}");
