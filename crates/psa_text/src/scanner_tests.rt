@@ -95,7 +95,9 @@ fn read(alloc: Global, bytes: &[u8], size: usize) -> Result<String, OutOfMemory>
 fn reads_a_model_in_any_pieces(rt: HostRuntime) {
     for size in [1, 2, 3, 64, 1000] {
         assert_eq!(rt;
-            read(rt.alloc(), REAL.as_bytes(), size).unwrap().as_str(),
+            read(rt.alloc(), REAL.as_bytes(), size)
+                .expect(&rt, "memory")
+                .as_str(),
             REAL_TREE
         );
     }
@@ -127,12 +129,16 @@ const TREES: [(&str, &str); 16] = [
 fn reads_trees(rt: HostRuntime) {
     for (text, tree) in TREES {
         assert_eq!(rt;
-            read(rt.alloc(), text.as_bytes(), 1).unwrap().as_str(),
+            read(rt.alloc(), text.as_bytes(), 1)
+                .expect(&rt, "memory")
+                .as_str(),
             tree,
             "{text}"
         );
         assert_eq!(rt;
-            read(rt.alloc(), text.as_bytes(), 64).unwrap().as_str(),
+            read(rt.alloc(), text.as_bytes(), 64)
+                .expect(&rt, "memory")
+                .as_str(),
             tree,
             "{text}"
         );
@@ -191,7 +197,10 @@ const FAULTS: [(&[u8], &str); 46] = [
 #[test]
 fn finds_first_faults(rt: HostRuntime) {
     for (text, fault) in FAULTS {
-        assert_eq!(rt; read(rt.alloc(), text, 1).unwrap().as_str(), fault);
+        assert_eq!(rt;
+            read(rt.alloc(), text, 1).expect(&rt, "memory").as_str(),
+            fault
+        );
     }
 }
 
@@ -237,24 +246,30 @@ const LONGEST: [(&str, &str, usize, &str); 5] = [
 #[test]
 fn keeps_limits(rt: HostRuntime) {
     for (start, middle, count, end, fault) in TOO_LONG {
-        let text = repeated(rt.alloc(), start, middle, count, end).unwrap();
+        let text = repeated(rt.alloc(), start, middle, count, end).expect(&rt, "memory");
         assert_eq!(rt;
-            read(rt.alloc(), text.as_bytes(), 1).unwrap().as_str(),
+            read(rt.alloc(), text.as_bytes(), 1)
+                .expect(&rt, "memory")
+                .as_str(),
             fault,
             "{start}"
         );
     }
     for (start, middle, count, end) in LONGEST {
-        let text = repeated(rt.alloc(), start, middle, count, end).unwrap();
-        let read = read(rt.alloc(), text.as_bytes(), 7).unwrap();
+        let text = repeated(rt.alloc(), start, middle, count, end).expect(&rt, "memory");
+        let read = read(rt.alloc(), text.as_bytes(), 7).expect(&rt, "memory");
         assert!(rt; read.as_str().ends_with("{}"), "{start}");
     }
-    let mut deep = repeated(rt.alloc(), "", "<a>", 64, "").unwrap();
-    deep.push_str(repeated(rt.alloc(), "", "</a>", 64, "").unwrap().as_str())
-        .unwrap();
+    let mut deep = repeated(rt.alloc(), "", "<a>", 64, "").expect(&rt, "memory");
+    deep.push_str(
+        repeated(rt.alloc(), "", "</a>", 64, "")
+            .expect(&rt, "memory")
+            .as_str(),
+    )
+    .expect(&rt, "memory");
     assert!(rt;
         read(rt.alloc(), deep.as_bytes(), 64)
-            .unwrap()
+            .expect(&rt, "memory")
             .as_str()
             .ends_with("}}")
     );
@@ -289,14 +304,16 @@ fn fed(
 #[test]
 fn keeps_the_limits_of_a_file(rt: HostRuntime) {
     let blanks = [b' '; 1024];
-    let last = repeated(rt.alloc(), "", " ", 1023, "\n ").unwrap();
+    let last = repeated(rt.alloc(), "", " ", 1023, "\n ").expect(&rt, "memory");
     let cases: [(&str, &[u8], u32, &str, &str); 2] = [
         ("", &blanks, 65_535, last.as_str(), "long file 2"),
         ("<a>\n", b"<b/>", 999_999, "\n<b", "long file 3"),
     ];
     for (front, middle, count, end, fault) in cases {
         assert_eq!(rt;
-            fed(rt.alloc(), front, middle, count, end).unwrap().as_str(),
+            fed(rt.alloc(), front, middle, count, end)
+                .expect(&rt, "memory")
+                .as_str(),
             fault
         );
     }
