@@ -5,3 +5,14 @@ pub mod Depths
 pub mod Spelled
 pub mod Ascii
 pub mod FirstTexts
+mod ScannerBytes
+mod ScannerSteps
+mod ScannerCloses
+mod ScannerRuns
+mod ScannerTrees
+mod ScannerReadings
+mod ScannerFaults
+mod ScannerScans
+mod ScannerEnds
+mod ScannerFeeds
+mod ScannerQuiets

@@ -4,3 +4,13 @@ pub mod Nesting
 pub mod Bytes
 pub mod Reading
 pub mod FirstText
+pub mod TextBytes
+pub mod TextItems
+pub mod TextTree
+pub mod TextFaults
+pub mod ScannerMachine
+pub mod ScannerView
+pub mod ScannerNesting
+pub mod ScannerBounds
+pub mod ScannerQuiet
+pub mod ScannerState

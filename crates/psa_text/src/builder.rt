@@ -1,8 +1,11 @@
 ghost use Rattle.std.specs.Prelude.{◌≡◌, [], Some};
 ghost use Rattle.psa_text.specs.Steps.{Gives};
 ghost use Rattle.psa_text.specs.Tree.{element_of};
+ghost use Rattle.psa_text.specs.ScannerNesting.{has_begun, in_label, nest};
 ghost use Rattle.psa_text.specs.Nesting.{at_start, closed, finished, is_too_deep, nested, placed, state_of, stepped};
 
+use crate::scanner_bytes::is_blank;
+use crate::scanner_item::Item;
 use crate::token::{StepError, Tag, Token};
 use crate::{Element, Items, Text};
 use std::alloc::Global;
@@ -59,6 +62,40 @@ impl Builder {
             Token::Empty(tag) => self.open_and_close(alloc, tag, line),
             Token::End(name) => self.close(name),
             Token::Passed => Ok(()),
+        }
+    }
+
+    /// Takes the next item of a scanned text, which begins at `line`. Refused: where it does not fit.
+    pub fn step_item(&mut self, alloc: Global, item: Item, line: u32) -> Result<(), StepError>
+        ensures { Gives (λ _. state_of self.new) result (nest item line (state_of self.old)) }
+    {
+        match item {
+            Item::Start(tag) => self.step(alloc, Token::Start(tag), line),
+            Item::Empty(tag) => self.step(alloc, Token::Empty(tag), line),
+            Item::End(name) => self.step(alloc, Token::End(name), line),
+            Item::Doctype if self.has_begun() => Err(StepError::Refused),
+            Item::Text(byte) if !self.is_in_label() && !is_blank(byte) => Err(StepError::Refused),
+            Item::Doctype | Item::Text(_) | Item::Comment | Item::Instruction => Ok(()),
+        }
+    }
+
+    /// Whether the root has begun.
+    fn has_begun(&self) -> bool
+        ensures { result ≡ has_begun (state_of self.now) }
+    {
+        match self.open_elements.as_slice() {
+            [] => self.root.is_some(),
+            [..] => true,
+        }
+    }
+
+    /// Whether the innermost open element is a label.
+    pub fn is_in_label(&self) -> bool
+        ensures { result ≡ in_label (state_of self.now).open_elements }
+    {
+        match self.open_elements.as_slice() {
+            [.., element] => element.tag.as_str() == "label",
+            [] => false,
         }
     }
 

@@ -1,4 +1,4 @@
-ghost use Rattle.std.specs.Prelude.{◌≡◌, ◌<◌, All, IfOk, length};
+ghost use Rattle.std.specs.Prelude.{◌≡◌, ◌<◌, [], All, IfOk, length};
 
 use crate::OutOfMemory;
 use std::alloc::Global;
@@ -20,6 +20,15 @@ impl Model for Text {
 }
 
 impl Text {
+    /// The empty text.
+    pub(crate) fn new(alloc: Global) -> Text
+        ensures { result ≡ [] }
+    {
+        Text {
+            text: String::new(alloc),
+        }
+    }
+
     /// A text with the bytes of `text`.
     pub fn from_str(alloc: Global, text: &str) -> Result<Text, OutOfMemory>
         ensures { IfOk result (λ made. made ≡ text.now) }

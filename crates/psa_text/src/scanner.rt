@@ -1,0 +1,211 @@
+ghost use Rattle.std.specs.Prelude.{◌≡◌, ◌++◌, ◌<◌, [], List, ℕ, None, Ok, Err, IfErr};
+ghost use Rattle.psa_text.specs.declared.scanner_error.TextError.{TextError};
+ghost use Rattle.psa_text.specs.ScannerState.{Answers, Counts, Ends, HasFailed, HasRead, Passes, Quiets, Steps, item_stepped, marked, on_nested, quiet_of, scan_of, stepped};
+ghost use Rattle.psa_text.specs.ScannerMachine as machine;
+ghost use Rattle.psa_text.specs.ScannerNesting.{nest};
+ghost use Rattle.psa_text.specs.ScannerView.{lex_of};
+ghost use Rattle.psa_text.specs.Nesting.{state_of};
+ghost use Rattle.psa_text.specs.TextFaults as faults;
+
+use crate::Document;
+use crate::builder::Builder;
+use crate::scanner_error::{TextError, TextFault, TextKind};
+use crate::scanner_item::Item;
+use crate::scanner_lexer::{Lexer, TokenError};
+use crate::scanner_mark::Mark;
+use crate::scanner_quiet::Quiet;
+use crate::scanner_state::Scanner;
+use crate::token::StepError;
+use std::alloc::Global;
+
+/// The greatest number of bytes of a text.
+const MAX_BYTES: u32 = 67_108_864;
+/// The greatest number of elements of a text.
+const MAX_ELEMENTS: u32 = 1_000_000;
+
+impl Scanner {
+    /// A scanner that has read nothing.
+    pub fn new(alloc: Global) -> Scanner
+        ensures { HasRead result [] }
+    {
+        Scanner {
+            lexer: Lexer::new(alloc),
+            builder: Builder::new(alloc),
+            mark: Mark::Unread,
+            count: 0,
+            line: 1,
+            start: 1,
+            elements: 0,
+            failed: None,
+            alloc,
+        }
+    }
+
+    /// Reads a further piece of the text, cut anywhere. Answers the text's fault in the call that has the
+    /// byte that decides it, and then the same error for ever.
+    pub fn feed(&mut self, piece: &[u8]) -> Result<(), TextError>
+        ensures read { (h : List ℕ) → HasRead self.old h → Answers (h ++ piece.now) self.new result }
+        ensures again { (error : TextError) → HasFailed self.old error → result ≡ Err error }
+        ensures failed { IfErr result (λ error. HasFailed self.new error) }
+    {
+        if let Some(error) = self.failed {
+            return Err(error);
+        }
+        let mut quiet = self.quiet();
+        for byte in piece {
+            if quiet.passes(*byte) && self.count < MAX_BYTES {
+                self.pass_quiet(*byte);
+                continue;
+            }
+            if let Err(error) = self.step(*byte) {
+                self.failed = Some(error);
+                return Err(error);
+            }
+            quiet = self.quiet();
+        }
+        Ok(())
+    }
+
+    /// The tree of the whole text, or the fault at its end, or the error that was answered before.
+    pub fn finish(self) -> Result<Document, TextError>
+        ensures read { (h : List ℕ) → HasRead self h → Ends h result }
+        ensures again { (error : TextError) → HasFailed self error → result ≡ Err error }
+    {
+        if let Some(error) = self.failed {
+            return Err(error);
+        }
+        if !self.lexer.is_between() {
+            return Err(fault(TextKind::BadMarkup, self.start));
+        }
+        match self.builder.finish() {
+            Some(root) => Ok(Document { root }),
+            None => Err(fault(TextKind::BadNesting, self.line)),
+        }
+    }
+
+    /// The bytes that change nothing but the counts here.
+    fn quiet(&self) -> Quiet
+        ensures { result ≡ quiet_of (scan_of self.now) }
+    {
+        if !matches!(self.mark, Mark::Passed) {
+            Quiet::Nothing
+        } else if self.lexer.is_in_comment() {
+            Quiet::AllBut(b'-')
+        } else if self.lexer.is_in_instruction() {
+            Quiet::AllBut(b'?')
+        } else if !self.lexer.is_between() {
+            Quiet::Nothing
+        } else if self.builder.is_in_label() {
+            Quiet::AllBut(b'<')
+        } else {
+            Quiet::Blanks
+        }
+    }
+
+    /// Counts a byte that changes nothing else.
+    fn pass_quiet(&mut self, byte: u8)
+        requires { self.old.count < 67108864 }
+        ensures { Quiets byte self.old self.new }
+    {
+        self.count_byte(byte);
+        if self.lexer.is_between() {
+            self.start = self.line;
+        }
+    }
+
+    /// Reads one byte.
+    fn step(&mut self, byte: u8) -> Result<(), TextError>
+        requires { self.old.failed ≡ None }
+        ensures { Steps (stepped (scan_of self.old) byte) self.new result }
+    {
+        if self.count == MAX_BYTES {
+            return Err(fault(TextKind::LongFile, self.line));
+        }
+        match (self.mark, byte) {
+            (Mark::Unread, 0xEF) => self.pass_mark(Mark::FirstByte),
+            (Mark::FirstByte, 0xBB) => self.pass_mark(Mark::SecondByte),
+            (Mark::SecondByte, 0xBF) => self.pass_mark(Mark::Passed),
+            (Mark::FirstByte | Mark::SecondByte, _) => Err(fault(TextKind::BadNesting, 1)),
+            (Mark::Unread | Mark::Passed, _) => self.step_item(byte),
+        }
+    }
+
+    /// One more byte of the byte order mark.
+    fn pass_mark(&mut self, mark: Mark) -> Result<(), TextError>
+        requires failed { self.old.failed ≡ None }
+        requires room { self.old.count < 67108864 }
+        ensures { Steps (Ok (marked (scan_of self.old) mark)) self.new result }
+    {
+        self.mark = mark;
+        self.count += 1;
+        Ok(())
+    }
+
+    /// Reads one byte behind any byte order mark.
+    fn step_item(&mut self, byte: u8) -> Result<(), TextError>
+        requires failed { self.old.failed ≡ None }
+        requires room { self.old.count < 67108864 }
+        ensures { Steps (item_stepped (scan_of self.old) byte) self.new result }
+    {
+        if self.elements == MAX_ELEMENTS && self.lexer.begins_tag(byte) {
+            return Err(fault(TextKind::LongFile, self.line));
+        }
+        match self.lexer.advance(byte) {
+            Ok(None) => {
+                self.pass(byte);
+                Ok(())
+            }
+            Ok(Some(item)) => self.end_item(item, byte),
+            Err(TokenError::Bad) => Err(fault(TextKind::BadMarkup, self.start)),
+            Err(TokenError::Long) => Err(fault(TextKind::LongToken, self.start)),
+            Err(TokenError::Memory) => Err(TextError::Memory),
+        }
+    }
+
+    /// The item is whole: it goes into the tree, and the next begins behind its last byte.
+    fn end_item(&mut self, item: Item, byte: u8) -> Result<(), TextError>
+        requires failed { self.old.failed ≡ None }
+        requires room { self.old.count < 67108864 }
+        requires between { lex_of self.old.lexer ≡ machine.Between }
+        ensures { Steps (on_nested (scan_of self.old) byte item (nest item self.old.start (state_of self.old.builder))) self.new result }
+    {
+        let begun = u32::from(item.begins_element());
+        match self.builder.step_item(self.alloc, item, self.start) {
+            Ok(()) => {
+                self.pass(byte);
+                self.elements += begun;
+                self.start = self.line;
+                Ok(())
+            }
+            Err(StepError::Refused) => Err(fault(TextKind::BadNesting, self.start)),
+            Err(StepError::Memory) => Err(TextError::Memory),
+        }
+    }
+
+    /// Counts a byte behind any byte order mark.
+    fn pass(&mut self, byte: u8)
+        requires { self.old.count < 67108864 }
+        ensures { Passes byte self.old self.new }
+    {
+        self.mark = Mark::Passed;
+        self.count_byte(byte);
+    }
+
+    /// Counts a byte and its line.
+    fn count_byte(&mut self, byte: u8)
+        requires { self.old.count < 67108864 }
+        ensures { Counts byte self.old self.new }
+    {
+        self.count += 1;
+        if byte == b'\n' {
+            self.line += 1;
+        }
+    }
+}
+
+/// A fault of a text.
+fn fault(kind: TextKind, line: u32) -> TextError
+    ensures { result ≡ TextError.Fault (faults.fault kind line) }
+{
+    TextError::Fault(TextFault { kind, line })
+}

@@ -1,0 +1,320 @@
+use super::*;
+use std::alloc::Global;
+use std::test::*;
+
+const REAL: &str = "\u{FEFF}<?xml version=\"1.0\"?>
+<!DOCTYPE opsa-mef>
+<!-- two trains -- <not> a tag -->
+<opsa-mef name='two' >
+ <label>Any text > with / and 'quotes'</label>
+ <define-gate name=\"a&lt;b&#x41;&amp;&#9;\tc  \"><and ><gate name=\"\u{E9}\"/></and></define-gate>
+</opsa-mef>
+<!-- end -- ->
+--->";
+
+const REAL_TREE: &str =
+    "opsa-mef@4 name=two{label@5{}define-gate@6 name=a<bA&\t c{and@6{gate@6 name=\u{E9}{}}}}";
+
+/// An element as its tag, line and attributes and, between braces, the elements in it.
+fn outline(text: &mut String, element: &Element) -> Result<(), OutOfMemory> {
+    text.push_str(element.tag.as_str())?;
+    text.push_str("@")?;
+    push_number(text, element.line)?;
+    for attribute in element.attributes.as_slice() {
+        text.push_str(" ")?;
+        text.push_str(attribute.name.as_str())?;
+        text.push_str("=")?;
+        text.push_str(attribute.value.as_str())?;
+    }
+    text.push_str("{")?;
+    for child in element.children.as_slice() {
+        outline(text, child)?;
+    }
+    text.push_str("}")
+}
+
+fn push_number(text: &mut String, number: u32) -> Result<(), OutOfMemory> {
+    let mut digits = [b'0'; 10];
+    let mut rest = number;
+    for digit in digits.iter_mut() {
+        *digit = (rest % 10) as u8;
+        rest /= 10;
+    }
+    let mut begun = false;
+    for digit in digits.iter().rev() {
+        begun = begun || *digit > 0;
+        if begun {
+            text.push(char::from(b'0' + *digit % 10))?;
+        }
+    }
+    Ok(())
+}
+
+fn push_error(text: &mut String, error: TextError) -> Result<(), OutOfMemory> {
+    let fault = match error {
+        TextError::Fault(fault) => fault,
+        TextError::Memory => return text.push_str("memory"),
+    };
+    text.push_str(match fault.kind {
+        TextKind::LongFile => "long file ",
+        TextKind::BadMarkup => "bad markup ",
+        TextKind::LongToken => "long token ",
+        TextKind::BadNesting => "bad nesting ",
+    })?;
+    push_number(text, fault.line)
+}
+
+/// The outline of the tree of a text that comes in pieces of so many bytes, or its fault and, behind
+/// `at`, the number of the piece that has it.
+fn read(alloc: Global, bytes: &[u8], size: usize) -> Result<String, OutOfMemory> {
+    let mut out = String::new(alloc);
+    let mut scanner = Scanner::new(alloc);
+    let mut number = 0u32;
+    for piece in bytes.chunks(size.max(1)) {
+        if let Err(error) = scanner.feed(piece) {
+            push_error(&mut out, error)?;
+            if size == 1 {
+                out.push_str(" at ")?;
+                push_number(&mut out, number.saturating_add(1))?;
+            }
+            if scanner.feed(b"<") != Err(error) {
+                out.push_str(" then another")?;
+            }
+            return Ok(out);
+        }
+        number = number.saturating_add(1);
+    }
+    match scanner.finish() {
+        Ok(document) => outline(&mut out, &document.root)?,
+        Err(error) => push_error(&mut out, error)?,
+    }
+    Ok(out)
+}
+
+#[test]
+fn reads_a_model_in_any_pieces(rt: HostRuntime) {
+    for size in [1, 2, 3, 64, 1000] {
+        assert_eq!(rt;
+            read(rt.alloc(), REAL.as_bytes(), size)
+                .expect(&rt, "memory")
+                .as_str(),
+            REAL_TREE
+        );
+    }
+}
+
+const TREES: [(&str, &str); 16] = [
+    ("<opsa-mef/>", "opsa-mef@1{}"),
+    ("\u{FEFF}<a/>", "a@1{}"),
+    ("\n<a>\r\n<b></b >\r<c/></a>\n\n", "a@2{b@3{}c@3{}}"),
+    ("<a b=\" x \" c = 'y'\n/>", "a@1 b=x c=y{}"),
+    ("<a b='\t\n\r'/>", "a@1 b={}"),
+    ("<a b='1\t2\n3\r4'/>", "a@1 b=1 2 3 4{}"),
+    ("<a b='&#32;x&#x20;'/>", "a@1 b=x{}"),
+    ("<a b='&#9;x&#10;&#13;'/>", "a@1 b=\tx\n\r{}"),
+    ("<a b='&#xA0;x'/>", "a@1 b=\u{A0}x{}"),
+    ("<a b='&lt;&gt;&amp;&quot;&apos;'/>", "a@1 b=<>&\"'{}"),
+    (
+        "<a b='&#00000065;&#x10FFFF;&#xfFfD;'/>",
+        "a@1 b=A\u{10FFFF}\u{FFFD}{}",
+    ),
+    ("<a b='>'/>", "a@1 b=>{}"),
+    ("<:_\u{E9}-.1/>", ":_\u{E9}-.1@1{}"),
+    ("<label>x<b> </b>y</label>", "label@1{b@1{}}"),
+    ("<?><?><a/><!-->--><!---> -->", "a@1{}"),
+    ("<!DOCTYPE a \"x\"><!DOCTYPE\tb><a/>", "a@1{}"),
+];
+
+#[test]
+fn reads_trees(rt: HostRuntime) {
+    for (text, tree) in TREES {
+        assert_eq!(rt;
+            read(rt.alloc(), text.as_bytes(), 1)
+                .expect(&rt, "memory")
+                .as_str(),
+            tree,
+            "{text}"
+        );
+        assert_eq!(rt;
+            read(rt.alloc(), text.as_bytes(), 64)
+                .expect(&rt, "memory")
+                .as_str(),
+            tree,
+            "{text}"
+        );
+    }
+}
+
+const FAULTS: [(&[u8], &str); 46] = [
+    (b"", "bad nesting 1"),
+    (b"\xEF", "bad nesting 1"),
+    (b"\xEF\xBB", "bad nesting 1"),
+    (b"\xEF\xBB\xBF", "bad nesting 1"),
+    (b"\xEF<a/>", "bad nesting 1 at 2"),
+    (b"\xEF\xBB\n", "bad nesting 1 at 3"),
+    (b"\xBB", "bad nesting 1 at 1"),
+    (b"\n\xEF\xBB\xBF", "bad nesting 2 at 2"),
+    (b"\x1F\x8B", "bad nesting 1 at 1"),
+    (b"<opsa-mef name=\"x", "bad markup 1"),
+    (b"\n<a\n\n", "bad markup 2"),
+    (b"<a>\n\n", "bad nesting 3"),
+    (b"<a>\n</b>", "bad nesting 2 at 8"),
+    (b"</a>", "bad nesting 1 at 4"),
+    (b"<a/><b/>", "bad nesting 1 at 8"),
+    (b"<a/>\n<b><", "bad nesting 2 at 8"),
+    (b"<a/><!DOCTYPE a>", "bad nesting 1 at 16"),
+    (b"<a>x", "bad nesting 1 at 4"),
+    (b"<a>\n\n x", "bad nesting 3 at 7"),
+    (b"<label><b>x", "bad nesting 1 at 11"),
+    (b"<a/>x", "bad nesting 1 at 5"),
+    (b"<a/>\0", "bad nesting 1 at 5"),
+    (b"<a/><b x='<", "bad markup 1 at 11"),
+    (b"< a", "bad markup 1 at 2"),
+    (b"<1", "bad markup 1 at 2"),
+    (b"<a\n\n<", "bad markup 1 at 5"),
+    (b"<a/ >", "bad markup 1 at 4"),
+    (b"<a b='1'c", "bad markup 1 at 9"),
+    (b"<a b c", "bad markup 1 at 6"),
+    (b"<a b=1", "bad markup 1 at 6"),
+    (b"<!d", "bad markup 1 at 3"),
+    (b"<![", "bad markup 1 at 3"),
+    (b"<!-a", "bad markup 1 at 4"),
+    (b"<!DOCTYPE>", "bad markup 1 at 10"),
+    (b"<!DOCTYPE a [", "bad markup 1 at 13"),
+    (b"<a b='&x", "bad markup 1 at 8"),
+    (b"<a b='&amp'", "bad markup 1 at 11"),
+    (b"<a b='&#;", "bad markup 1 at 9"),
+    (b"<a b='&#x;", "bad markup 1 at 10"),
+    (b"<a b='&#123456789", "bad markup 1 at 17"),
+    (b"<a b='&#0;", "bad markup 1 at 10"),
+    (b"<a b='&#xD800;", "bad markup 1 at 14"),
+    (b"<a b='&#x110000;", "bad markup 1 at 16"),
+    (b"<a\xFF >", "bad markup 1 at 4"),
+    (b"<a b='\xC3'", "bad markup 1 at 8"),
+    (b"<a \xC3='", "bad markup 1 at 5"),
+];
+
+#[test]
+fn finds_first_faults(rt: HostRuntime) {
+    for (text, fault) in FAULTS {
+        assert_eq!(rt;
+            read(rt.alloc(), text, 1).expect(&rt, "memory").as_str(),
+            fault
+        );
+    }
+}
+
+/// `start`, `middle` so many times, and `end`.
+fn repeated(
+    alloc: Global,
+    start: &str,
+    middle: &str,
+    count: usize,
+    end: &str,
+) -> Result<String, OutOfMemory> {
+    let mut text = String::from_str(alloc, start)?;
+    for _ in 0..count {
+        text.push_str(middle)?;
+    }
+    text.push_str(end)?;
+    Ok(text)
+}
+
+const TOO_LONG: [(&str, &str, usize, &str, &str); 12] = [
+    ("<", "n", 65, "/>", "long token 1 at 66"),
+    ("<a>\n</", "n", 65, ">", "long token 2 at 71"),
+    ("<a ", "n", 65, "='x'/>", "long token 1 at 68"),
+    ("<a b='", "v", 513, "'/>", "long token 1 at 519"),
+    ("<a b='", "&#65;", 103, "'/>", "long token 1 at 519"),
+    ("<a b='", "v", 508, "&#0;'/>", "bad markup 1 at 518"),
+    ("<a b='", "v", 509, "&#0;'/>", "bad markup 1 at 519"),
+    ("<a b='", "v", 510, "&#0;'/>", "long token 1 at 519"),
+    ("<a", " b='1'", 33, "/>", "long token 1 at 196"),
+    ("", "<a>", 65, "", "bad nesting 1 at 195"),
+    ("", "<a>", 64, "<a/>", "bad nesting 1 at 196"),
+    ("", "<a>", 64, "<a b='", "bad markup 1"),
+];
+
+const LONGEST: [(&str, &str, usize, &str); 5] = [
+    ("<", "n", 64, "/>"),
+    ("<a ", "n", 64, "='x'/>"),
+    ("<a b='", "v", 512, "'/>"),
+    ("<a b='", "&#65;", 102, "xx'/>"),
+    ("<a", " b='1'", 32, "/>"),
+];
+
+#[test]
+fn keeps_limits(rt: HostRuntime) {
+    for (start, middle, count, end, fault) in TOO_LONG {
+        let text = repeated(rt.alloc(), start, middle, count, end).expect(&rt, "memory");
+        assert_eq!(rt;
+            read(rt.alloc(), text.as_bytes(), 1)
+                .expect(&rt, "memory")
+                .as_str(),
+            fault,
+            "{start}"
+        );
+    }
+    for (start, middle, count, end) in LONGEST {
+        let text = repeated(rt.alloc(), start, middle, count, end).expect(&rt, "memory");
+        let read = read(rt.alloc(), text.as_bytes(), 7).expect(&rt, "memory");
+        assert!(rt; read.as_str().ends_with("{}"), "{start}");
+    }
+    let mut deep = repeated(rt.alloc(), "", "<a>", 64, "").expect(&rt, "memory");
+    deep.push_str(
+        repeated(rt.alloc(), "", "</a>", 64, "")
+            .expect(&rt, "memory")
+            .as_str(),
+    )
+    .expect(&rt, "memory");
+    assert!(rt;
+        read(rt.alloc(), deep.as_bytes(), 64)
+            .expect(&rt, "memory")
+            .as_str()
+            .ends_with("}}")
+    );
+}
+
+/// The fault, or `none`, of a text of `front`, `count` times `middle`, and `end`, fed piece by piece.
+fn fed(
+    alloc: Global,
+    front: &str,
+    middle: &[u8],
+    count: u32,
+    end: &str,
+) -> Result<String, OutOfMemory> {
+    let mut out = String::new(alloc);
+    let mut scanner = Scanner::new(alloc);
+    let mut result = scanner.feed(front.as_bytes());
+    for _ in 0..count {
+        if result.is_ok() {
+            result = scanner.feed(middle);
+        }
+    }
+    if result.is_ok() {
+        result = scanner.feed(end.as_bytes());
+    }
+    match result {
+        Ok(()) => out.push_str("none")?,
+        Err(error) => push_error(&mut out, error)?,
+    }
+    Ok(out)
+}
+
+#[test]
+fn keeps_the_limits_of_a_file(rt: HostRuntime) {
+    let blanks = [b' '; 1024];
+    let last = repeated(rt.alloc(), "", " ", 1023, "\n ").expect(&rt, "memory");
+    let cases: [(&str, &[u8], u32, &str, &str); 2] = [
+        ("", &blanks, 65_535, last.as_str(), "long file 2"),
+        ("<a>\n", b"<b/>", 999_999, "\n<b", "long file 3"),
+    ];
+    for (front, middle, count, end, fault) in cases {
+        assert_eq!(rt;
+            fed(rt.alloc(), front, middle, count, end)
+                .expect(&rt, "memory")
+                .as_str(),
+            fault
+        );
+    }
+}
