@@ -103,7 +103,7 @@ pub ranks-decide : (expanded : Expanded) (target : Target) (ranks : List EventNu
     → f ≡ truth_by_rank expanded target ranks → width ≡ length ranks → LooksBelow width f
 ranks-decide expanded target ranks width f is_truth is_width =
     subst (LooksBelow width) (sym is_truth)
-        (λ s t agree. ap (target_truth expanded target) (λ i event. by-rank-agree s t ranks 0 event (λ rank below. agree rank (omega arith)) i))
+    (λ s t agree. ap (target_truth expanded target) (λ i event. by-rank-agree s t ranks 0 event (λ rank below. agree rank (omega arith)) i))
 
 -- the section of a target over what was found
 pub section-found : (expanded : Expanded) (target : Target) (ranks : List EventNumber) (f : (ℕ → Bool) → Bool) (sets : List (List ℕ)) (text : List ℕ)

@@ -35,8 +35,9 @@ outcome-of-bytes files name bytes ReadRose WriteRose before after status known r
       read_fault = λ is. absurd (run.read_fault is);
       write_fault = λ is. ((run.write_fault is).0, tells-bytes files name bytes (λ text. SaysModel text (ReportsPart before after)) known (run.write_fault is).1);
       out_of_memory = λ is. elim (run.out_of_memory is) [
-          inl same_out ↦ inl same_out
-        | inr part ↦ inr (tells-bytes files name bytes (λ text. SaysModel text (ReportsPart before after)) known part) ];
+        | inl same_out ↦ inl same_out
+        | inr part ↦ inr (tells-bytes files name bytes (λ text. SaysModel text (ReportsPart before after)) known part)
+      ];
     }
 
 -- a longer text is no first text

@@ -40,8 +40,8 @@ pub literals-in-parts : (expanded : Expanded) (ranks : List EventNumber) (old mi
     → new ≡ old ++ literals_text expanded ranks (positive_product set)
 literals-in-parts expanded ranks old mid new set first more is_set is_mid is_new =
     rw (is_set, literals_text-cons expanded ranks first more)
-        (is_new ∙ ap (λ text. text ++ events_after expanded ranks more) is_mid
-            ∙ append_assoc old (ranked_text expanded ranks first) (events_after expanded ranks more))
+    (is_new ∙ ap (λ text. text ++ events_after expanded ranks more) is_mid
+    ∙ append_assoc old (ranked_text expanded ranks first) (events_after expanded ranks more))
 
 -- the parts of a section, one after another
 pub section-in-parts : (expanded : Expanded) (target : Target) (ranks : List EventNumber) (sets : List (List ℕ)) (start line products text : List ℕ)
@@ -52,6 +52,6 @@ pub section-in-parts : (expanded : Expanded) (target : Target) (ranks : List Eve
     → text ≡ section_text expanded target ranks (map positive_product sets)
 section-in-parts expanded target ranks sets start line products text is_start is_line is_products is_text =
     rw (flat_map-map (product_line expanded ranks) positive_product sets, length-map sets positive_product)
-        (is_text ∙ ap (λ t. t ++ count_line (length sets))
-            (is_products ∙ ap (λ t. t ++ flat_map (λ set. product_line expanded ranks (positive_product set)) sets)
-                (is_line ∙ ap (λ t. t ++ target_line expanded.model target) is_start)))
+    (is_text ∙ ap (λ t. t ++ count_line (length sets))
+    (is_products ∙ ap (λ t. t ++ flat_map (λ set. product_line expanded ranks (positive_product set)) sets)
+    (is_line ∙ ap (λ t. t ++ target_line expanded.model target) is_start)))

@@ -45,9 +45,9 @@ more-sections : (expanded : Expanded) (targets : List Target) (i : ℕ) (target 
     → AreSections expanded CutSets 20 (take (i + 1) targets) (text ++ section)
 more-sections expanded targets i target text section within is_target so_far one =
     let longer : take (i + 1) targets ≡ take i targets ++ target ∷ [] =
-        take_more targets i target within ∙ ap (λ (t : Target). take i targets ++ t ∷ []) (sym is_target) in
+    take_more targets i target within ∙ ap (λ (t : Target). take i targets ++ t ∷ []) (sym is_target) in
     subst (λ (some : List Target). AreSections expanded CutSets 20 some (text ++ section)) (sym longer)
-        (and_section (take i targets) text target section so_far one)
+    (and_section (take i targets) text target section so_far one)
 
 pub sections-more : (expanded : Expanded) (targets : List Target) (i : ℕ) (target : Target) (section : List ℕ) (before mid after : Option (List ℕ))
     → i < length targets → target ≡ get_or targets i target
@@ -84,9 +84,6 @@ sections-so-far expanded targets i before now so_far = record {
   are_sections = so_far.are_sections;
   appended = prefix-whole before now so_far.text so_far.appended;
 }
-
-
-
 
 -- a prefix of the head
 pub report-head : (expanded : Expanded) (targets : List Target) (before after : Option (List ℕ))
@@ -131,13 +128,14 @@ tops-from : (expanded : Expanded) (test : ℕ → Gate → Bool) (place : ℕ) (
 tops-from expanded test place [] fits = tt
 tops-from expanded test place (gate ∷ gates) fits =
     elim (test place gate) as (λ b. AllByRecursion (IsTop expanded) (map (λ place. TopEvent (record { 0 = place })) (if b then place ∷ places_from test (place + 1) gates else places_from test (place + 1) gates))) [
-        true ↦ (omega arith, tops-from expanded test (place + 1) gates (omega arith))
-      | false ↦ tops-from expanded test (place + 1) gates (omega arith) ]
+      | true ↦ (omega arith, tops-from expanded test (place + 1) gates (omega arith))
+      | false ↦ tops-from expanded test (place + 1) gates (omega arith)
+    ]
 
 pub tops-stand : (expanded : Expanded) (targets : List Target) → targets ≡ top_targets expanded.model → All (IsTop expanded) targets
 tops-stand expanded targets same =
     subst (λ (some : List Target). All (IsTop expanded) some) (sym same)
-        (All-from_recursion (IsTop expanded) (top_targets expanded.model) (tops-from expanded (is_top_event expanded.model) 0 expanded.model.gates (omega arith)))
+    (All-from_recursion (IsTop expanded) (top_targets expanded.model) (tops-from expanded (is_top_event expanded.model) 0 expanded.model.gates (omega arith)))
 
 -- the head, letter by letter
 pub head-spelled : head_text Bdd CutSets 20 ≡ codes "scram report\nalgorithm bdd\nproducts minimal-cut-sets\nlimit-order 20\n"

@@ -62,8 +62,9 @@ below-places : {A : Type 0} (test : ℕ → A → Bool) (n place : ℕ) (xs : Li
 below-places test n place [] fits = below-nil n
 below-places test n place (x ∷ xs) fits =
     elim (test place x) as (λ b. AllBelow n (if b then place ∷ places_from test (place + 1) xs else places_from test (place + 1) xs)) [
-        true ↦ below-cons n place (places_from test (place + 1) xs) (omega arith) (below-places test n (place + 1) xs (omega arith))
-      | false ↦ below-places test n (place + 1) xs (omega arith) ]
+      | true ↦ below-cons n place (places_from test (place + 1) xs) (omega arith) (below-places test n (place + 1) xs (omega arith))
+      | false ↦ below-places test n (place + 1) xs (omega arith)
+    ]
 
 -- what is visited are numbers of events
 below-gate : (expanded : Expanded) (n : ℕ) (below : Formula → List ℕ) → ((f : Formula) → AllBelow n (below f)) → (gate : Option Gate) → AllBelow n (at_gate [] below gate)
@@ -93,15 +94,17 @@ filter-has : (p : ℕ → Bool) (q : ℕ) (xs : List ℕ) → list_any (eqb q) (
 filter-has p q [] = λ h. h
 filter-has p q (x ∷ xs) =
     elim (p x) as (λ b. list_any (eqb q) (cond b (x ∷ filter p xs) (filter p xs)) ≡ true → (eqb q x || list_any (eqb q) xs) ≡ true) [
-        true ↦ λ h. elim (either-true (eqb q x) (list_any (eqb q) (filter p xs)) h) [ inl same ↦ rw same refl | inr more ↦ or-right (eqb q x) (list_any (eqb q) xs) (filter-has p q xs more) ]
-      | false ↦ λ h. or-right (eqb q x) (list_any (eqb q) xs) (filter-has p q xs h) ]
+      | true ↦ λ h. elim (either-true (eqb q x) (list_any (eqb q) (filter p xs)) h) [ inl same ↦ rw same refl | inr more ↦ or-right (eqb q x) (list_any (eqb q) xs) (filter-has p q xs more) ]
+      | false ↦ λ h. or-right (eqb q x) (list_any (eqb q) xs) (filter-has p q xs h)
+    ]
 
 firsts-has : (q : ℕ) (xs : List ℕ) → list_any (eqb q) (firsts xs) ≡ true → list_any (eqb q) xs ≡ true
 firsts-has q [] h = h
 firsts-has q (x ∷ xs) h =
     elim (either-true (eqb q x) (list_any (eqb q) (filter (λ y. not (y == x)) (firsts xs))) h) [
-        inl same ↦ rw same refl
-      | inr more ↦ or-right (eqb q x) (list_any (eqb q) xs) (firsts-has q xs (filter-has (λ y. not (y == x)) q (firsts xs) more)) ]
+      | inl same ↦ rw same refl
+      | inr more ↦ or-right (eqb q x) (list_any (eqb q) xs) (firsts-has q xs (filter-has (λ y. not (y == x)) q (firsts xs) more))
+    ]
 
 ne-eqb : (a b : ℕ) → (a ≡ b → ⊥) → eqb a b ≡ false
 ne-eqb a b apart = elim (eqb_tells a b) [ inl same ↦ absurd (apart same.1) | inr other ↦ other.0 ]
@@ -110,22 +113,26 @@ filter-apart : (x : ℕ) (xs : List ℕ) → AllByRecursion (λ y. eqb x y ≡ f
 filter-apart x [] = tt
 filter-apart x (z ∷ xs) =
     elim (eqb_tells z x) [
-        inl same ↦ rw same.0 (filter-apart x xs)
-      | inr other ↦ rw other.0 (ne-eqb x z (λ e. other.1 (sym e)), filter-apart x xs) ]
+      | inl same ↦ rw same.0 (filter-apart x xs)
+      | inr other ↦ rw other.0 (ne-eqb x z (λ e. other.1 (sym e)), filter-apart x xs)
+    ]
 
 filter-each : (P : ℕ → Type 0) (p : ℕ → Bool) (xs : List ℕ) → AllByRecursion P xs → AllByRecursion P (filter p xs)
 filter-each P p [] all = all
 filter-each P p (x ∷ xs) all =
     elim (p x) as (λ b. AllByRecursion P (cond b (x ∷ filter p xs) (filter p xs))) [
-        true ↦ (all.0, filter-each P p xs all.1) | false ↦ filter-each P p xs all.1 ]
+      | true ↦ (all.0, filter-each P p xs all.1)
+      | false ↦ filter-each P p xs all.1
+    ]
 
 filter-distinct : (p : ℕ → Bool) (xs : List ℕ) → IsDistinct eqb xs → IsDistinct eqb (filter p xs)
 unfolding IsDistinct
 filter-distinct p [] distinct = distinct
 filter-distinct p (x ∷ xs) distinct =
     elim (p x) as (λ b. IsDistinct eqb (cond b (x ∷ filter p xs) (filter p xs))) [
-        true ↦ (filter-each (λ y. eqb x y ≡ false) p xs distinct.0, filter-distinct p xs distinct.1)
-      | false ↦ filter-distinct p xs distinct.1 ]
+      | true ↦ (filter-each (λ y. eqb x y ≡ false) p xs distinct.0, filter-distinct p xs distinct.1)
+      | false ↦ filter-distinct p xs distinct.1
+    ]
 
 firsts-distinct : (xs : List ℕ) → IsDistinct eqb (firsts xs)
 unfolding IsDistinct

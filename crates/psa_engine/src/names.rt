@@ -48,11 +48,7 @@ fn push_numbered(
 
 /// Adds the text of an expanded event: the name of a basic event, or the names of a subset's members
 /// between `[` and `]`.
-fn push_event(
-    text: &mut Vec<u8>,
-    model: &Model,
-    event: ExpandedEvent,
-) -> Result<(), OutOfMemory>
+fn push_event(text: &mut Vec<u8>, model: &Model, event: ExpandedEvent) -> Result<(), OutOfMemory>
     ensures { OnOk result (text.new.items ≡ text.old.items ++ event_text model.now event) }
 {
     match event {

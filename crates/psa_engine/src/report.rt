@@ -21,8 +21,7 @@ use thiserror::Error;
 const LIMIT_ORDER: u8 = 20;
 
 /// The first four lines of a report.
-const HEAD: &[u8] =
-    b"scram report\nalgorithm bdd\nproducts minimal-cut-sets\nlimit-order 20\n";
+const HEAD: &[u8] = b"scram report\nalgorithm bdd\nproducts minimal-cut-sets\nlimit-order 20\n";
 
 /// Why a report was not written whole.
 #[derive(Debug, Drop, Error)]
@@ -82,11 +81,7 @@ fn write_sections<O: Sink>(
 }
 
 /// The section of a top event, with its minimal cut sets of at most 20 events.
-fn section_of(
-    alloc: Global,
-    expanded: &Expanded,
-    target: &Target,
-) -> Result<Vec<u8>, OutOfMemory>
+fn section_of(alloc: Global, expanded: &Expanded, target: &Target) -> Result<Vec<u8>, OutOfMemory>
     requires first { IsFirst expanded.now }
     requires top { IsTop expanded.now target.now }
     ensures { IfOk result (λ text. IsSection expanded.now CutSets 20 target.now text.items) }

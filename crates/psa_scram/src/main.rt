@@ -18,7 +18,13 @@ fn main(rt: HostRuntime) -> io::Result<ExitCode> {
             Status::OutOfMemory
         }
         // A word that is not UTF-8 makes the words refused, as no words are.
-        Err(_) => analyse_words(rt.alloc(), &Vec::new(rt.alloc()), &mut files, &mut out, &mut err),
+        Err(_) => analyse_words(
+            rt.alloc(),
+            &Vec::new(rt.alloc()),
+            &mut files,
+            &mut out,
+            &mut err,
+        ),
     };
     Ok(ExitCode::from(status.exit()))
 }

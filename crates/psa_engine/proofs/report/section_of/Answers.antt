@@ -14,8 +14,8 @@ overflow_cast-len c =
 pub minimal_cut_sets-requires-clause-looks_below : goal.minimal_cut_sets-requires-clause-looks_below
 minimal_cut_sets-requires-clause-looks_below c =
     ranks-decide c.args.expanded.now c.args.target.now c.in_ok-ranks.ranks c.len.result (truth_of c.in_ok-truth.truth)
-        (c.in_ok-truth.ensures ∙ ap (truth_by_rank c.args.expanded.now c.args.target.now) (c.in_ok-asked_ranks.ensures ∙ c.as_slice.ensures))
-        c.len.ensures
+    (c.in_ok-truth.ensures ∙ ap (truth_by_rank c.args.expanded.now c.args.target.now) (c.in_ok-asked_ranks.ensures ∙ c.as_slice.ensures))
+    c.len.ensures
 
 pub minimal_cut_sets-requires-clause-narrow : goal.minimal_cut_sets-requires-clause-narrow
 minimal_cut_sets-requires-clause-narrow c =
@@ -25,10 +25,10 @@ minimal_cut_sets-requires-clause-narrow c =
 pub returns : goal.returns
 returns c =
     IfOk-then _ _ c.section_bytes.result
-        (λ text spelled.
-            section-found c.args.expanded.now c.args.target.now c.in_ok-ranks.ranks (truth_of c.in_ok-truth.truth) c.in_ok-sets.sets text.items
-                c.in_ok-ranks.ensures
-                (c.in_ok-truth.ensures ∙ ap (truth_by_rank c.args.expanded.now c.args.target.now) (c.in_ok-asked_ranks.ensures ∙ c.as_slice.ensures))
-                c.in_ok-sets.ensures
-                (rw (c.as_slice-2.ensures, c.as_slice-3.ensures) at spelled))
-        c.section_bytes.ensures
+    (λ text spelled.
+    section-found c.args.expanded.now c.args.target.now c.in_ok-ranks.ranks (truth_of c.in_ok-truth.truth) c.in_ok-sets.sets text.items
+    c.in_ok-ranks.ensures
+    (c.in_ok-truth.ensures ∙ ap (truth_by_rank c.args.expanded.now c.args.target.now) (c.in_ok-asked_ranks.ensures ∙ c.as_slice.ensures))
+    c.in_ok-sets.ensures
+    (rw (c.as_slice-2.ensures, c.as_slice-3.ensures) at spelled))
+    c.section_bytes.ensures

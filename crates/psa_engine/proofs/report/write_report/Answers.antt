@@ -13,7 +13,7 @@ returns-in_default-clause-part g c = report-none c.args.expanded.now (top_target
 pub returns-then-is_err-clause-part : goal.returns-then-is_err-clause-part
 returns-then-is_err-clause-part g c =
     report-head c.args.expanded.now (top_targets c.args.expanded.now.model) (g.O.Sink.written c.args.out.now) (g.O.Sink.written c.put.new.sink)
-        (subst (AppendsPrefix (g.O.Sink.written c.args.out.now) (g.O.Sink.written c.put.new.sink)) (sym head-spelled) c.put.ensures.part)
+    (subst (AppendsPrefix (g.O.Sink.written c.args.out.now) (g.O.Sink.written c.put.new.sink)) (sym head-spelled) c.put.ensures.part)
 
 pub write_sections-requires-clause-tops : goal.write_sections-requires-clause-tops
 write_sections-requires-clause-tops g c = tops-stand c.args.expanded.now c.as_slice.result.now (c.as_slice.ensures ∙ c.in-Ok.ensures)
@@ -21,19 +21,19 @@ write_sections-requires-clause-tops g c = tops-stand c.args.expanded.now c.as_sl
 pub returns-clause-all : goal.returns-clause-all
 returns-clause-all g c =
     OnOk-then _ _ c.write_sections.result
-        (λ (sections : WritesSections c.args.expanded.now c.as_slice.result.now (g.O.Sink.written c.put.new.sink) (g.O.Sink.written c.write_sections.new.out)).
-            report-all c.args.expanded.now c.as_slice.result.now (top_targets c.args.expanded.now.model) (g.O.Sink.written c.args.out.now) (g.O.Sink.written c.put.new.sink) (g.O.Sink.written c.write_sections.new.out)
-                (c.as_slice.ensures ∙ c.in-Ok.ensures)
-                (subst (Appends (g.O.Sink.written c.args.out.now) (g.O.Sink.written c.put.new.sink)) (sym head-spelled) (ok-holds _ c.put.result (sym c.is_err.ensures.value ∙ c.if-is_err.false) c.put.ensures.whole))
-                sections)
-        c.write_sections.ensures.all
+    (λ (sections : WritesSections c.args.expanded.now c.as_slice.result.now (g.O.Sink.written c.put.new.sink) (g.O.Sink.written c.write_sections.new.out)).
+    report-all c.args.expanded.now c.as_slice.result.now (top_targets c.args.expanded.now.model) (g.O.Sink.written c.args.out.now) (g.O.Sink.written c.put.new.sink) (g.O.Sink.written c.write_sections.new.out)
+    (c.as_slice.ensures ∙ c.in-Ok.ensures)
+    (subst (Appends (g.O.Sink.written c.args.out.now) (g.O.Sink.written c.put.new.sink)) (sym head-spelled) (ok-holds _ c.put.result (sym c.is_err.ensures.value ∙ c.if-is_err.false) c.put.ensures.whole))
+    sections)
+    c.write_sections.ensures.all
 
 pub returns-clause-part : goal.returns-clause-part
 returns-clause-part g c =
     OnErr-then _ _ c.write_sections.result
-        (λ (sections : WritesSectionsPart c.args.expanded.now c.as_slice.result.now (g.O.Sink.written c.put.new.sink) (g.O.Sink.written c.write_sections.new.out)).
-            report-part c.args.expanded.now c.as_slice.result.now (top_targets c.args.expanded.now.model) (g.O.Sink.written c.args.out.now) (g.O.Sink.written c.put.new.sink) (g.O.Sink.written c.write_sections.new.out)
-                (c.as_slice.ensures ∙ c.in-Ok.ensures)
-                (subst (Appends (g.O.Sink.written c.args.out.now) (g.O.Sink.written c.put.new.sink)) (sym head-spelled) (ok-holds _ c.put.result (sym c.is_err.ensures.value ∙ c.if-is_err.false) c.put.ensures.whole))
-                sections)
-        c.write_sections.ensures.part
+    (λ (sections : WritesSectionsPart c.args.expanded.now c.as_slice.result.now (g.O.Sink.written c.put.new.sink) (g.O.Sink.written c.write_sections.new.out)).
+    report-part c.args.expanded.now c.as_slice.result.now (top_targets c.args.expanded.now.model) (g.O.Sink.written c.args.out.now) (g.O.Sink.written c.put.new.sink) (g.O.Sink.written c.write_sections.new.out)
+    (c.as_slice.ensures ∙ c.in-Ok.ensures)
+    (subst (Appends (g.O.Sink.written c.args.out.now) (g.O.Sink.written c.put.new.sink)) (sym head-spelled) (ok-holds _ c.put.result (sym c.is_err.ensures.value ∙ c.if-is_err.false) c.put.ensures.whole))
+    sections)
+    c.write_sections.ensures.part

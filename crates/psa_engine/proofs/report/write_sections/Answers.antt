@@ -13,8 +13,8 @@ returns-in_default-clause-part g c =
 pub returns-then-is_err-clause-part : goal.returns-then-is_err-clause-part
 returns-then-is_err-clause-part g c =
     sections-cut c.args.expanded.now c.args.targets.now c.loop-target.target-index c.target-item.result c.in-Ok.section.items
-        (g.O.Sink.written c.args.out.now) (g.O.Sink.written c.loop-target.out) (g.O.Sink.written c.put.new.sink)
-        (omega arith) c.target-item.is c.loop-target.invariant.written c.in-Ok.ensures (rw c.as_slice.ensures.value at c.put.ensures.part)
+    (g.O.Sink.written c.args.out.now) (g.O.Sink.written c.loop-target.out) (g.O.Sink.written c.put.new.sink)
+    (omega arith) c.target-item.is c.loop-target.invariant.written c.in-Ok.ensures (rw c.as_slice.ensures.value at c.put.ensures.part)
 
 pub loop-target-preserved : goal.loop-target-preserved
 loop-target-preserved g c = record {

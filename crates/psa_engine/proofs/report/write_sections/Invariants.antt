@@ -4,6 +4,6 @@ use Rattle.psa_engine.proofs.report.write_sections.Given as goal
 
 abbrev pub invariant-loop-target : goal.invariant-loop-target
 invariant-loop-target g l = record {
-    written : WritesSections l.expanded (take l.target-index l.targets) (g.O.Sink.written l.fn.out) (g.O.Sink.written l.out);
-    later : g.O.Sink.faults l.fn.out ≤ g.O.Sink.faults l.out;
-  }
+  written : WritesSections l.expanded (take l.target-index l.targets) (g.O.Sink.written l.fn.out) (g.O.Sink.written l.out);
+  later : g.O.Sink.faults l.fn.out ≤ g.O.Sink.faults l.out;
+}
