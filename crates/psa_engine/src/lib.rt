@@ -12,3 +12,6 @@ mod words;
 
 pub use run::analyse_words;
 pub use status::Status;
+
+#[cfg(test)]
+mod tests;
