@@ -1,0 +1,6 @@
+pub mod Readings
+pub mod Nodes
+pub mod Families
+pub mod Operations
+pub mod Table
+pub mod Progress
