@@ -8,3 +8,6 @@ pub mod Same
 pub mod Places
 pub mod Entries
 pub mod Makes
+pub mod Steady
+pub mod Cofactors
+pub mod CallerLemmas

@@ -3,4 +3,5 @@ pub mod Nodes
 pub mod Families
 pub mod Operations
 pub mod Table
+pub mod Cofactors
 pub mod Progress
