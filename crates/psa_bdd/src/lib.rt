@@ -1,13 +1,9 @@
-// A library with one function.
+//! Binary decision diagrams over the shared node table: conjunction and disjunction (Bryant's apply, with
+//! remembered results).
 #![tactic(auto)]
 
-ghost use Rattle.std.specs.Prelude.{◌≡◌};
-ghost use Rattle.psa_bdd.specs.Echo.{echo_of};
+mod combine;
+mod connective;
+mod sides;
 
-// The `ensures` clause is the contract: what `echo` returns is `echo_of` of its argument, a definition
-// in `specs/Echo.antt`, which a caller's clause can cite too.
-pub fn echo(x: usize) -> usize
-    ensures { result ≡ echo_of x }
-{
-    x
-}
+pub use combine::{and, or};

@@ -1,8 +1,8 @@
 -- What the proof of a caller cites: of ids, of growing tables, of what a call does.
-pub use Rattle.psa_nodes.proofs.Ids.{same_kind-exact, stands-below, stands-weaker, stands-terminal, stands-cases, stands-split, stands-node, StandsAs, node_at-terminal, node_at-below, node_at-past, node_at-some, level-node, level-terminal, level-stands, first_literal-grows, first_literal-step, first_literal-bound}
+pub use Rattle.psa_nodes.proofs.Ids.{same_kind-exact, stands-below, stands-weaker, stands-terminal, stands-cases, stands-at, stands-split, stands-node, StandsAs, node_at-terminal, node_at-below, node_at-past, node_at-some, level-node, level-terminal, level-stands, first_literal-grows, first_literal-step, first_literal-bound}
 pub use Rattle.psa_nodes.proofs.Grows.{grown-own, grown-then, length-kept, below-kept, stands-kept, node_at-kept, level-kept, reading-kept, truth-kept, has-kept, node_reading-kept}
 pub use Rattle.psa_nodes.proofs.At.{At, at}
-pub use Rattle.psa_nodes.proofs.Truths.{truth-agree, fixed, IsBlind, blind-stands, high-side, low-side, branch-blind, choice-same}
+pub use Rattle.psa_nodes.proofs.Truths.{truth-agree, truth-terminal, fixed, fixed-past, IsBlind, blind-stands, high-side, low-side, branch-blind, choice-same}
 pub use Rattle.psa_nodes.proofs.Sets.{joined-own, joined-other, has-below, has-zero}
 pub use Rattle.psa_nodes.proofs.Canon.{AreCanonical, canonical, only, same-back}
 pub use Rattle.psa_nodes.proofs.Entries.{right-kept, right-has}

@@ -69,6 +69,19 @@ stands-cases k v (n ∷ older) id h =
         ]
     ]
 
+-- the node at an id that stands is of the kind and has at least the variable
+pub stands-at : (k : Kind) (v : ℕ) (ns : List Node) (id : ℕ) (m : Node) → stands k v ns id ≡ true → node_at ns id ≡ Some m → (m.kind ≡ k) × (v ≤ m.var)
+stands-at k v [] id m h e = cc
+stands-at k v (n ∷ older) id m h e =
+    elim (eqb_tells id (next_id older)) [
+      inl p ↦
+        let parts = and_parts (same_kind n.kind k) (nat_le v n.var) (rw p.0 at h) in
+        let same : Some n ≡ Some m = rw p.0 at e in
+        let own : n ≡ m = cc in
+        rw (← own) (same_kind-exact n.kind k parts.0, leb-true v n.var parts.1)
+    | inr p ↦ stands-at k v older id m (rw p.0 at h) (rw p.0 at e)
+    ]
+
 -- a terminal has no node
 pub node_at-terminal : (ns : List Node) (id : ℕ) → id < 2 → node_at ns id ≡ None
 node_at-terminal [] id lt = refl

@@ -60,3 +60,9 @@ module _ (f hi lo : (ℕ → Bool) → Bool) (x : ℕ) (is : (s : ℕ → Bool) 
 pub branch-blind : (hi lo : (ℕ → Bool) → Bool) (x v : ℕ) → x + 1 ≤ v → IsBlind v hi → IsBlind v lo → IsBlind x (λ s. if s v then hi s else lo s)
 branch-blind hi lo x v le bh bl s t same =
     choice-same (s v) (t v) _ _ _ _ (same v le) (bh s t (λ y l. same y (omega arith))) (bl s t (λ y l. same y (omega arith)))
+
+-- a terminal is false or true
+pub truth-terminal : (ns : List Node) (id : ℕ) (s : ℕ → Bool) → id < 2 → truth ns id s ≡ (id == 1)
+truth-terminal [] id s lt = refl
+truth-terminal (n ∷ older) id s lt =
+    rw (ne_eqb id (length older + 2) (λ e. omega arith)) (truth-terminal older id s lt)

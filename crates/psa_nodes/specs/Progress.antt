@@ -1,15 +1,17 @@
 -- What a call on diagrams does to the node table. One record serves conjunction and disjunction, the
 -- operations on families and the prime implicants.
 -- An origin tells, of a node's kind, its variable and its reading, that the call may make such a node.
-use Rattle.std.specs.Prelude.{◌≡◌, ◌≤◌, ◌⊎◌, ℕ, min, List, [], ◌∷◌, ◌++◌, Some, Result, Err}
+use Rattle.std.specs.Prelude.{◌≡◌, true, ◌≤◌, ◌⊎◌, ℕ, min, List, [], ◌∷◌, ◌++◌, Some, Result, Err}
 use Rattle.psa_nodes.specs.declared.node.Kind.{Kind}
 use Rattle.psa_nodes.specs.declared.node.Node.{Node}
 use Rattle.psa_nodes.specs.declared.node.NodeId.{NodeId}
 use Rattle.psa_nodes.specs.declared.node.MemoKey.{MemoKey}
 use Rattle.psa_nodes.specs.declared.node.NodeError.{NodeError}
 use Rattle.psa_nodes.specs.declared.node.NodeError.TheVariants.{Full}
-use Rattle.psa_nodes.specs.Readings.{Reading, node_at, reading, node_reading, first_literal, level}
-use Rattle.psa_nodes.specs.Nodes.{Grown}
+use Rattle.psa_nodes.specs.declared.node.Operation.{Operation}
+use Rattle.psa_nodes.specs.Readings.{Reading, node_at, stands, reading, node_reading, first_literal, level}
+use Rattle.psa_nodes.specs.Nodes.{Grown, IsOnly}
+use Rattle.psa_nodes.specs.Operations.{result_kind, Computes}
 use Rattle.psa_nodes.specs.Table.{Table, IsTable}
 
 -- where the operands of a key stand: the least of their levels
@@ -58,3 +60,9 @@ module _ (Origin : Kind → ℕ → Reading → Type 0) (low : ℕ) where
     pub progress : Progress before now
     pub full : answer ≡ Err Full → IsFull now
     pub kept : (answer ≡ Err Full → ⊥) → now.refused ≡ before.refused
+
+-- The id is the result of an operation on two nodes, and no other node of its kind reads so.
+pub record IsResult (operation : Operation) (limit : ℕ) (ns : List Node) (left right id : ℕ) : Type 0 where
+  pub stands_at : stands (result_kind operation) 0 ns id ≡ true
+  pub computes : Computes operation limit (reading ns left) (reading ns right) (reading ns id)
+  pub only : IsOnly (result_kind operation) ns id
