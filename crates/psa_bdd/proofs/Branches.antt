@@ -1,5 +1,5 @@
 -- A diagram by its sides, and the cofactors of both.
-use Rattle.std.proofs.Common.{◌≡◌, ℕ, ◌+◌, ◌*◌, ◌<◌, ◌≤◌, Bool, true, false, List, ◌==◌, Some, IsSome, if◌then◌else◌, refl, sym, ap, ap₂, subst, ◌∙◌, inl, inr, arith}
+use Rattle.std.proofs.Common.{◌≡◌, ℕ, ◌+◌, ◌*◌, ◌<◌, ◌≤◌, Bool, true, false, List, ◌==◌, Some, if◌then◌else◌, refl, sym, ap, ap₂, subst, ◌∙◌, inl, inr, arith}
 use Rattle.std.proofs.lemmas.Bool.{cases_Bool}
 use Rattle.psa_nodes.specs.declared.node.Kind.{Kind}
 use Rattle.psa_nodes.specs.declared.node.Kind.TheVariants.{Bdd}
@@ -8,14 +8,10 @@ use Rattle.psa_nodes.specs.Readings.{Reading, reading, node_at, truth, stands, f
 use Rattle.psa_nodes.specs.Nodes.{AllFit, Grown, IsReduced}
 use Rattle.psa_nodes.specs.Progress.{IsResult}
 use Rattle.psa_nodes.specs.Cofactors.{cofactor, assigned}
-use Rattle.psa_nodes.proofs.CallerLemmas.{At, at, node_at-some, stands-node, stands-weaker, stands-below, stands-kept, truth-kept, fixed, IsBlind, blind-stands, fixed-past, high-side, low-side, stands-split, canonical, high-cofactor, low-cofactor, truth-agree, assigned-past, level-node, stands-at, choice-same}
+use Rattle.psa_nodes.proofs.CallerLemmas.{At, at, stands-node, stands-weaker, stands-below, stands-kept, truth-kept, fixed, IsBlind, blind-stands, fixed-past, high-side, low-side, stands-split, canonical, high-cofactor, low-cofactor, truth-agree, assigned-past, level-node, stands-at, choice-same}
 use Rattle.psa_bdd.specs.declared.connective.Connective.{Connective}
 use Rattle.psa_bdd.specs.Combined.{apply, operation_of, IsCofactors, IsSplit, IsReady, pair_level}
 use Rattle.psa_bdd.proofs.Apply.{apply-branch, is_result, result-stands, result-reads}
-
--- an id that stands and is no terminal has a node
-pub some-inner : (ns : List Node) (id : ℕ) → stands Bdd 0 ns id ≡ true → 2 ≤ id → IsSome (node_at ns id)
-some-inner ns id st past = let r = node_at-some ns id past (stands-below Bdd 0 ns id st) in rw r.1 refl
 
 -- a node is its children by its own variable
 pub split-own : (ns : List Node) (id : ℕ) (m : Node) → AllFit ns → node_at ns id ≡ Some m → m.kind ≡ Bdd → IsSplit ns m.var id m.hi.0 m.lo.0

@@ -7,3 +7,6 @@ mod connective;
 mod sides;
 
 pub use combine::{and, or};
+
+#[cfg(test)]
+mod tests;

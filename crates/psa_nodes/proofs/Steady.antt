@@ -1,6 +1,6 @@
 -- How what a call does to the table grows: one step after another, for a wider origin, by a node or an
 -- entry more.
-use Rattle.std.proofs.Common.{◌≡◌, ◌⊎◌, ℕ, ◌+◌, ◌<◌, ◌≤◌, min, Bool, List, [], ◌∷◌, ◌++◌, length, Option, None, Some, Result, Ok, Err, IfOk, OnOk, OnErr, refl, sym, ap, ap₂, subst, ◌∙◌, inl, inr, arith, append_assoc, append-nil}
+use Rattle.std.proofs.Common.{◌≡◌, ◌⊎◌, ℕ, ◌+◌, ◌<◌, ◌≤◌, min, Bool, true, IsSome, List, [], ◌∷◌, ◌++◌, length, Option, None, Some, Result, Ok, Err, IfOk, OnOk, OnErr, refl, sym, ap, ap₂, subst, ◌∙◌, inl, inr, arith, append_assoc, append-nil}
 use Rattle.std.proofs.lemmas.Bool.Decides.{eqb_tells}
 use Rattle.psa_nodes.specs.declared.node.Kind.{Kind}
 use Rattle.psa_nodes.specs.declared.node.Node.{Node}
@@ -8,12 +8,12 @@ use Rattle.psa_nodes.specs.declared.node.NodeId.{NodeId}
 use Rattle.psa_nodes.specs.declared.node.MemoKey.{MemoKey}
 use Rattle.psa_nodes.specs.declared.node.NodeError.{NodeError}
 use Rattle.psa_nodes.specs.declared.node.NodeError.TheVariants.{Full, Memory}
-use Rattle.psa_nodes.specs.Readings.{next_id, node_at, level, first_literal, Reading, reading, node_reading}
+use Rattle.psa_nodes.specs.Readings.{next_id, node_at, stands, level, first_literal, Reading, reading, node_reading}
 use Rattle.psa_nodes.specs.Nodes.{Grown}
 use Rattle.psa_nodes.specs.Operations.{operand_kind}
 use Rattle.psa_nodes.specs.Table.{Table, IsTable, IsRight, AllRight, Lacks, MakesNode}
 use Rattle.psa_nodes.specs.Progress.{key_level, AllPast, Entered, IsFrom, AreNew, Progress, IsFull, IsCall}
-use Rattle.psa_nodes.proofs.Ids.{stands-below, node_at-below}
+use Rattle.psa_nodes.proofs.Ids.{stands-below, node_at-below, node_at-some}
 use Rattle.psa_nodes.proofs.Grows.{grown-own, grown-cons, grown-then, level-kept, reading-kept}
 use Rattle.psa_nodes.proofs.At.{reading-newest}
 
@@ -169,7 +169,7 @@ module _ {Origin Wide : Kind → ℕ → Reading → Type 0} {low wide : ℕ} (l
   pub call-wide : {A : Type 0} {before now : Table} (answer : Result A NodeError) → IsCall Origin low before now answer → IsCall Wide wide before now answer
   call-wide {A} {before} {now} answer c = record {
     progress = progress-wide c.progress;
-    full = λ e. let f = c.full e in record { triple = f.triple; last = f.last; from = from-wide f.triple (node_reading now.nodes f.triple) f.from };
+    full = λ e. let f = c.full e in record { triple = f.triple; last = f.last; refusal = f.refusal; from = from-wide f.triple (node_reading now.nodes f.triple) f.from };
     kept = c.kept
   }
 
@@ -196,8 +196,20 @@ module _ {Origin : Kind → ℕ → Reading → Type 0} {low : ℕ} (n : Node) (
           nodes = grown-own before.nodes;
           entries = record { more = []; appended = sym (append-nil before.entries); past = tt };
           same_limit = refl;
-          added = λ id m at. inl at
+          added = λ id k at. inl at
         };
-        full = λ e. record { triple = n; last = refl; from = from };
+        full = λ e. record { triple = n; last = refl; refusal = m.full.0 refl; from = from };
         kept = λ ne. absurd (ne refl)
       })
+
+-- asking for a node adds nodes alone
+pub made-grown : (n : Node) (before now : Table) (id : NodeId) → MakesNode n before now (Ok id) → Grown before.nodes now.nodes
+made-grown n before now id m =
+    elim m.added [
+      inl p ↦ subst (λ (t : Table). Grown before.nodes t.nodes) (sym p) (grown-own before.nodes)
+    | inr p ↦ subst (λ (t : Table). Grown before.nodes t.nodes) (sym p.0) (grown-cons n before.nodes)
+    ]
+
+-- an id that stands and is no terminal has a node
+pub some-inner : (k : Kind) (v : ℕ) (ns : List Node) (id : ℕ) → stands k v ns id ≡ true → 2 ≤ id → IsSome (node_at ns id)
+some-inner k v ns id st past = let r = node_at-some ns id past (stands-below k v ns id st) in rw r.1 refl

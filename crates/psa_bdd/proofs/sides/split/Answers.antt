@@ -2,8 +2,7 @@ use Rattle.std.proofs.Common.{◌≡◌, ◌≤◌, ◌*◌, ℕ, min, arith, ap
 use Rattle.psa_nodes.specs.declared.node.Kind.{Kind}
 use Rattle.psa_nodes.specs.declared.node.Kind.TheVariants.{Bdd}
 use Rattle.psa_nodes.specs.Readings.{stands, level, first_literal}
-use Rattle.psa_nodes.proofs.CallerLemmas.{stands-at, stands-node, stands-weaker, level-node}
-use Rattle.psa_bdd.proofs.Branches.{some-inner}
+use Rattle.psa_nodes.proofs.CallerLemmas.{some-inner, stands-at, stands-node, stands-weaker, level-node}
 use Rattle.psa_bdd.proofs.sides.split.Goals as goal
 
 -- the least of two levels is that of the least variable
@@ -11,10 +10,10 @@ least : (a b x y v : ℕ) → a ≡ 2 * x → b ≡ 2 * y → v ≡ min x y → 
 least a b x y v p q r = omega arith
 
 pub node-first-requires : goal.node-first-requires
-node-first-requires g c = some-inner c.args.table.now.nodes c.args.left.0 c.requires.left c.requires.inner.0
+node-first-requires g c = some-inner Bdd 0 c.args.table.now.nodes c.args.left.0 c.requires.left c.requires.inner.0
 
 pub node-second-requires : goal.node-second-requires
-node-second-requires g c = some-inner c.args.table.now.nodes c.args.right.0 c.requires.right c.requires.inner.1
+node-second-requires g c = some-inner Bdd 0 c.args.table.now.nodes c.args.right.0 c.requires.right c.requires.inner.1
 
 pub returns-clause-left : goal.returns-clause-left
 returns-clause-left g c =
