@@ -22,7 +22,7 @@ module _ (c : Connective) (ns : List Node) (left right : NodeId) where
     left_stands = rw (operand-bdd c) sa;
     right_stands = rw (operand-bdd c) sb;
     result_stands = rw (result-bdd c) st;
-    computes = computes-from c 0 (reading ns a.0) (reading ns b.0) (reading ns id.0) h
+    computes = computes-from c 0 (reading ns a.0) (reading ns b.0) (reading ns id.0) h;
   }
 
   pub right-key : (id : NodeId) → stands Bdd 0 ns left.0 ≡ true → stands Bdd 0 ns right.0 ≡ true → IsResult (operation_of c) 0 ns left.0 right.0 id.0 → IsRight ns (key_of c left right) id
@@ -30,8 +30,8 @@ module _ (c : Connective) (ns : List Node) (left right : NodeId) where
       let st = result-stands c ns left.0 right.0 id.0 r in
       let reads = result-reads c ns left.0 right.0 id.0 r in
       elim (cases_Bool (nat_le left.0 right.0)) [
-        inl p ↦ rw p (right-ordered left right id sl sr st reads)
-      | inr p ↦ rw p (right-ordered right left id sr sl st (λ s. reads s ∙ apply-comm c (truth ns left.0 s) (truth ns right.0 s)))
+        | inl p ↦ rw p (right-ordered left right id sl sr st reads)
+        | inr p ↦ rw p (right-ordered right left id sr sl st (λ s. reads s ∙ apply-comm c (truth ns left.0 s) (truth ns right.0 s)))
       ]
 
   result-ordered : (a b id : NodeId) → AllFit ns → IsRight ns (record { operation = operation_of c; left = a; right = b; limit = 0 }) id → IsResult (operation_of c) 0 ns a.0 b.0 id.0
@@ -41,16 +41,16 @@ module _ (c : Connective) (ns : List Node) (left right : NodeId) where
   pub result-key : (id : NodeId) → AllFit ns → IsRight ns (key_of c left right) id → IsResult (operation_of c) 0 ns left.0 right.0 id.0
   result-key id fit r =
       elim (cases_Bool (nat_le left.0 right.0)) [
-        inl p ↦ result-ordered left right id fit (rw p at r)
-      | inr p ↦
-          let back = result-ordered right left id fit (rw p at r) in
-          is_result c ns left.0 right.0 id.0 fit (result-stands c ns right.0 left.0 id.0 back)
+        | inl p ↦ result-ordered left right id fit (rw p at r)
+        | inr p ↦
+            let back = result-ordered right left id fit (rw p at r) in
+            is_result c ns left.0 right.0 id.0 fit (result-stands c ns right.0 left.0 id.0 back)
             (λ s. result-reads c ns right.0 left.0 id.0 back s ∙ apply-comm c (truth ns right.0 s) (truth ns left.0 s))
       ]
 
   pub key-level : key_level ns (key_of c left right) ≡ pair_level ns left.0 right.0
   key-level =
       elim (cases_Bool (nat_le left.0 right.0)) [
-        inl p ↦ rw p refl
-      | inr p ↦ rw p (omega arith)
+        | inl p ↦ rw p refl
+        | inr p ↦ rw p (omega arith)
       ]

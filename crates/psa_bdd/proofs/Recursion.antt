@@ -34,8 +34,8 @@ module _ (c : Connective) (old : Table) (fit : AllFit old.nodes) (left right : N
   high-call : {A : Type 0} (mid : Table) (answer : Result A NodeError) → IsCall (IsCofactors c (truth old.nodes left_hi) (truth old.nodes right_hi)) (pair_level old.nodes left_hi right_hi) old mid answer → IsCall Wide (2 * var + 2) old mid answer
   high-call mid answer call =
       call-wide past_hi
-        (λ k v x past o. high-origin c old.nodes fit var left.0 left_hi left_lo right.0 right_hi right_lo l r k v x (omega (arith, past, past_hi)) o)
-        answer call
+      (λ k v x past o. high-origin c old.nodes fit var left.0 left_hi left_lo right.0 right_hi right_lo l r k v x (omega (arith, past, past_hi)) o)
+      answer call
 
   module _ (mid : Table) (g : Grown old.nodes mid.nodes) (mid_fit : AllFit mid.nodes) where
     abbrev Later : Kind → ℕ → Reading → Type 0
@@ -45,9 +45,9 @@ module _ (c : Connective) (old : Table) (fit : AllFit old.nodes) (left right : N
     back : (k : Kind) (v : ℕ) (x : Reading) → Later k v x → Wide k v x
     back k v x =
         subst₂ (λ (f h : (ℕ → Bool) → Bool). Later k v x → IsCofactors c f h k v x)
-          (λ i s. truth-kept g left.0 s (stands-below Bdd 0 old.nodes left.0 left_zero) i)
-          (λ i s. truth-kept g right.0 s (stands-below Bdd 0 old.nodes right.0 right_zero) i)
-          (λ o. o)
+        (λ i s. truth-kept g left.0 s (stands-below Bdd 0 old.nodes left.0 left_zero) i)
+        (λ i s. truth-kept g right.0 s (stands-below Bdd 0 old.nodes right.0 right_zero) i)
+        (λ o. o)
 
     left_mid : IsSplit mid.nodes var left.0 left_hi left_lo
     left_mid = split-kept g var left.0 left_hi left_lo left_zero l
@@ -67,8 +67,8 @@ module _ (c : Connective) (old : Table) (fit : AllFit old.nodes) (left right : N
     low-call : {A : Type 0} (now : Table) (answer : Result A NodeError) → IsCall (IsCofactors c (truth mid.nodes left_lo) (truth mid.nodes right_lo)) (pair_level mid.nodes left_lo right_lo) mid now answer → IsCall Wide (2 * var + 2) mid now answer
     low-call now answer call =
         call-wide past_lo
-          (λ k v x past o. back k v x (low-origin c mid.nodes mid_fit var left.0 left_hi left_lo right.0 right_hi right_lo left_mid right_mid k v x (omega (arith, past, past_lo)) o))
-          answer call
+        (λ k v x past o. back k v x (low-origin c mid.nodes mid_fit var left.0 left_hi left_lo right.0 right_hi right_lo left_mid right_mid k v x (omega (arith, past, past_lo)) o))
+        answer call
 
     last-call : {A : Type 0} (now : Table) (answer : Result A NodeError) → IsCall Later (2 * var) mid now answer → IsCall Wide (pair_level old.nodes left.0 right.0) mid now answer
     last-call now answer call =
@@ -106,12 +106,12 @@ module _ (c : Connective) (old : Table) (fit : AllFit old.nodes) (left right : N
           let g = (both-call second (Ok lo) low).progress.nodes in
           let f = low.progress.table.fit in
           let h = result-kept c low.progress.nodes f left_hi right_hi hi.0
-                (stands-weaker Bdd (var + 1) 0 mid.nodes left_hi (omega arith) (left_mid mid high.progress.nodes high.progress.table.fit).hi_stands)
-                (stands-weaker Bdd (var + 1) 0 mid.nodes right_hi (omega arith) (right_mid mid high.progress.nodes high.progress.table.fit).hi_stands)
-                of_high in
+          (stands-weaker Bdd (var + 1) 0 mid.nodes left_hi (omega arith) (left_mid mid high.progress.nodes high.progress.table.fit).hi_stands)
+          (stands-weaker Bdd (var + 1) 0 mid.nodes right_hi (omega arith) (right_mid mid high.progress.nodes high.progress.table.fit).hi_stands)
+          of_high in
           ready-sides c second.nodes f var left.0 left_hi left_lo right.0 right_hi right_lo hi.0 lo.0
-            (stands-kept g Bdd var left.0 sl) (stands-kept g Bdd var right.0 sr)
-            (left_mid second g f) (right_mid second g f) h of_low
+          (stands-kept g Bdd var left.0 sl) (stands-kept g Bdd var right.0 sr)
+          (left_mid second g f) (right_mid second g f) h of_low
 
       pub absent : Lacks old.entries (key_of c left right) → Lacks second.entries (key_of c left right)
       absent lacks =

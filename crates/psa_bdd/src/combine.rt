@@ -12,7 +12,15 @@ use psa_nodes::{NodeError, NodeId, NodeTable, Steps};
 use std::sync::ledger::Ledger;
 
 /// Makes the node of the sides of a result, and remembers it.
-fn finish(table: &mut NodeTable, connective: Connective, left: NodeId, right: NodeId, var: u32, hi: NodeId, lo: NodeId) -> Result<NodeId, NodeError>
+fn finish(
+    table: &mut NodeTable,
+    connective: Connective,
+    left: NodeId,
+    right: NodeId,
+    var: u32,
+    hi: NodeId,
+    lo: NodeId,
+) -> Result<NodeId, NodeError>
     requires table { IsTable table.old }
     requires ready { IsReady connective table.old.nodes left.0 right.0 var hi.0 lo.0 }
     requires absent { Lacks table.old.entries (key_of connective left right) }
@@ -28,7 +36,13 @@ fn finish(table: &mut NodeTable, connective: Connective, left: NodeId, right: No
 }
 
 /// The connective of two diagrams, by recursion over the least of their variables. Each result is remembered.
-fn combine<L: Ledger>(table: &mut NodeTable, connective: Connective, left: NodeId, right: NodeId, steps: &mut Steps<L>) -> Result<NodeId, NodeError>
+fn combine<L: Ledger>(
+    table: &mut NodeTable,
+    connective: Connective,
+    left: NodeId,
+    right: NodeId,
+    steps: &mut Steps<L>,
+) -> Result<NodeId, NodeError>
     requires left { stands Bdd 0 table.old.nodes left.0 ≡ true }
     requires right { stands Bdd 0 table.old.nodes right.0 ≡ true }
     ensures combined { IfOk result (λ id. IsResult (operation_of connective) 0 table.new.nodes left.0 right.0 id.0) }
@@ -51,7 +65,12 @@ fn combine<L: Ledger>(table: &mut NodeTable, connective: Connective, left: NodeI
 /// The conjunction of two diagrams (Bryant): the node that is true where both are.
 /// Full only where the table has a limit and as many nodes. The recursion is at most as deep as the operands
 /// have variables. Each result that is remembered on the way costs two turns, and nothing else does.
-pub fn and<L: Ledger>(table: &mut NodeTable, left: NodeId, right: NodeId, steps: &mut Steps<L>) -> Result<NodeId, NodeError>
+pub fn and<L: Ledger>(
+    table: &mut NodeTable,
+    left: NodeId,
+    right: NodeId,
+    steps: &mut Steps<L>,
+) -> Result<NodeId, NodeError>
     requires left { stands Bdd 0 table.old.nodes left.0 ≡ true }
     requires right { stands Bdd 0 table.old.nodes right.0 ≡ true }
     ensures conjunction { IfOk result (λ id. IsResult Operation.And 0 table.new.nodes left.0 right.0 id.0) }
@@ -65,7 +84,12 @@ pub fn and<L: Ledger>(table: &mut NodeTable, left: NodeId, right: NodeId, steps:
 /// The disjunction of two diagrams (Bryant): the node that is true where one of them is.
 /// Full only where the table has a limit and as many nodes. The recursion is at most as deep as the operands
 /// have variables. Each result that is remembered on the way costs two turns, and nothing else does.
-pub fn or<L: Ledger>(table: &mut NodeTable, left: NodeId, right: NodeId, steps: &mut Steps<L>) -> Result<NodeId, NodeError>
+pub fn or<L: Ledger>(
+    table: &mut NodeTable,
+    left: NodeId,
+    right: NodeId,
+    steps: &mut Steps<L>,
+) -> Result<NodeId, NodeError>
     requires left { stands Bdd 0 table.old.nodes left.0 ≡ true }
     requires right { stands Bdd 0 table.old.nodes right.0 ≡ true }
     ensures disjunction { IfOk result (λ id. IsResult Operation.Or 0 table.new.nodes left.0 right.0 id.0) }

@@ -31,7 +31,12 @@ fn sides_at(id: NodeId, node: Node, var: u32) -> (NodeId, NodeId)
 }
 
 /// Splits two diagrams, neither a terminal; this reads their nodes, two turns.
-pub fn split<L: Ledger>(table: &NodeTable, left: NodeId, right: NodeId, steps: &mut Steps<L>) -> Sides
+pub fn split<L: Ledger>(
+    table: &NodeTable,
+    left: NodeId,
+    right: NodeId,
+    steps: &mut Steps<L>,
+) -> Sides
     requires left { stands Bdd 0 table.now.nodes left.0 ≡ true }
     requires right { stands Bdd 0 table.now.nodes right.0 ≡ true }
     requires inner { (2 ≤ left.0) × (2 ≤ right.0) }

@@ -9,6 +9,7 @@ use std::process::Abort;
 use std::sync::ledger::{Blank, Ledger};
 
 const FALSE: NodeId = NodeId(0);
+
 const TRUE: NodeId = NodeId(1);
 
 /// Reads the node at an id that is no terminal.
@@ -20,7 +21,11 @@ fn read<L: Ledger>(rt: &impl Abort, table: &NodeTable, id: NodeId, steps: &mut S
 }
 
 /// The conjunction and the disjunction of the events of ranks 0 and 1, and what they are made of.
-fn combined<L: Ledger>(rt: &impl Abort, table: &mut NodeTable, blank: Blank) -> Result<(NodeId, Node, Node), NodeError>
+fn combined<L: Ledger>(
+    rt: &impl Abort,
+    table: &mut NodeTable,
+    blank: Blank,
+) -> Result<(NodeId, Node, Node), NodeError>
     requires name { blank.name ≡ L.name }
     requires parts { blank.parts ≡ L.parts }
     requires some { 0 < blank.parts }
@@ -42,8 +47,24 @@ fn combines_two_events(rt: HostRuntime) {
         assert!(rt; false, "no result");
         return;
     };
-    assert_eq!(rt; both, Node { kind: Kind::Bdd, var: 0, hi: second, lo: FALSE });
-    assert_eq!(rt; either, Node { kind: Kind::Bdd, var: 0, hi: TRUE, lo: second });
+    assert_eq!(rt;
+        both,
+        Node {
+            kind: Kind::Bdd,
+            var: 0,
+            hi: second,
+            lo: FALSE
+        }
+    );
+    assert_eq!(rt;
+        either,
+        Node {
+            kind: Kind::Bdd,
+            var: 0,
+            hi: TRUE,
+            lo: second
+        }
+    );
     assert_eq!(rt; table.len(), 4);
     assert_eq!(rt; table.entries(), 2);
 }
@@ -55,6 +76,14 @@ fn stops_at_the_limit(rt: HostRuntime) {
     let answer = combined::<Brand>(&rt, &mut table, Blank::new(1));
     assert!(rt; matches!(answer, Err(NodeError::Full)));
     let refused = table.refused();
-    assert_eq!(rt; refused, Some(Node { kind: Kind::Bdd, var: 0, hi: NodeId(3), lo: FALSE }));
+    assert_eq!(rt;
+        refused,
+        Some(Node {
+            kind: Kind::Bdd,
+            var: 0,
+            hi: NodeId(3),
+            lo: FALSE
+        })
+    );
     assert_eq!(rt; table.len(), 2);
 }

@@ -19,7 +19,7 @@ pub record At (ns : List Node) (id : ℕ) (m : Node) : Type 0 where
 pub reading-newest : (n : Node) (older : List Node) → reading (n ∷ older) (next_id older) ≡ node_reading older n
 reading-newest n older i = record {
   as_truth = λ s. ap (λ b. if b then (if s n.var then truth older n.hi.0 s else truth older n.lo.0 s) else truth older (next_id older) s) own i;
-  as_family = λ set. ap (λ b. if b then joined n.var (has older n.hi.0) (has older n.lo.0) set else has older (next_id older) set) own i
+  as_family = λ set. ap (λ b. if b then joined n.var (has older n.hi.0) (has older n.lo.0) set else has older (next_id older) set) own i;
 }
   where
     own : (next_id older == next_id older) ≡ true
@@ -31,8 +31,8 @@ at-cons n older id m lt a = record {
   lo = stands-kept (grown-cons n older) m.kind (m.var + 1) m.lo.0 a.lo;
   reduced = a.reduced;
   reads =
-    reading-cons n older id lt ∙ a.reads ∙
-    sym (node_reading-kept (grown-cons n older) m (stands-below m.kind (m.var + 1) older m.hi.0 a.hi) (stands-below m.kind (m.var + 1) older m.lo.0 a.lo))
+      reading-cons n older id lt ∙ a.reads ∙
+      sym (node_reading-kept (grown-cons n older) m (stands-below m.kind (m.var + 1) older m.hi.0 a.hi) (stands-below m.kind (m.var + 1) older m.lo.0 a.lo));
 }
 
 at-newest : (n : Node) (older : List Node) → Fits older n → At (n ∷ older) (next_id older) n
@@ -41,19 +41,19 @@ at-newest n older f = record {
   lo = stands-kept (grown-cons n older) n.kind (n.var + 1) n.lo.0 f.lo;
   reduced = f.reduced;
   reads =
-    reading-newest n older ∙
-    sym (node_reading-kept (grown-cons n older) n (stands-below n.kind (n.var + 1) older n.hi.0 f.hi) (stands-below n.kind (n.var + 1) older n.lo.0 f.lo))
+      reading-newest n older ∙
+      sym (node_reading-kept (grown-cons n older) n (stands-below n.kind (n.var + 1) older n.hi.0 f.hi) (stands-below n.kind (n.var + 1) older n.lo.0 f.lo));
 }
 
 pub at : (ns : List Node) → AllFit ns → (id : ℕ) (m : Node) → node_at ns id ≡ Some m → At ns id m
 at [] fit id m e = cc
 at (n ∷ older) fit id m e =
     elim (eqb_tells id (next_id older)) [
-      inl p ↦
-        let same : Some n ≡ Some m = rw p.0 at e in
-        let own : n ≡ m = cc in
-        rw p.1 (subst (λ (x : Node). At (n ∷ older) (next_id older) x) own (at-newest n older fit.0))
-    | inr p ↦
-        let e' = rw p.0 at e in
-        at-cons n older id m (node_at-below older id m e') (at older fit.1 id m e')
+      | inl p ↦
+          let same : Some n ≡ Some m = rw p.0 at e in
+          let own : n ≡ m = cc in
+          rw p.1 (subst (λ (x : Node). At (n ∷ older) (next_id older) x) own (at-newest n older fit.0))
+      | inr p ↦
+          let e' = rw p.0 at e in
+          at-cons n older id m (node_at-below older id m e') (at older fit.1 id m e')
     ]

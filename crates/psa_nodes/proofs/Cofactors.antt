@@ -8,8 +8,8 @@ use Rattle.psa_nodes.proofs.Truths.{fixed, IsBlind, high-side, low-side}
 assigned-fixed : (assignment s : ℕ → Bool) (x v : ℕ) (b : Bool) → x < v → (y : ℕ) → fixed (assigned assignment v s) x b y ≡ assigned (fixed assignment x b) v s y
 assigned-fixed assignment s x v b lt y =
     elim (eqb_tells y x) [
-      inl p ↦ rw (p.0, lt-ltb y v (omega (arith, p.1))) refl
-    | inr p ↦ rw p.0 refl
+      | inl p ↦ rw (p.0, lt-ltb y v (omega (arith, p.1))) refl
+      | inr p ↦ rw p.0 refl
     ]
 
 -- the assignment makes no difference above the ranks that it fixes

@@ -28,9 +28,9 @@ module _ {before now : List Node} (g : Grown before now) where
         right_stands = stands-kept g (operand_kind key.operation) 0 key.right.0 r.right_stands;
         result_stands = stands-kept g (result_kind key.operation) 0 answer.0 r.result_stands;
         computes =
-          subst (λ (x : Reading). Computes key.operation key.limit (reading now key.left.0) (reading now key.right.0) x) (sym result)
-          (subst (λ (x : Reading). Computes key.operation key.limit (reading now key.left.0) x (reading before answer.0)) (sym right)
-          (subst (λ (x : Reading). Computes key.operation key.limit x (reading before key.right.0) (reading before answer.0)) (sym left) r.computes))
+            subst (λ (x : Reading). Computes key.operation key.limit (reading now key.left.0) (reading now key.right.0) x) (sym result)
+            (subst (λ (x : Reading). Computes key.operation key.limit (reading now key.left.0) x (reading before answer.0)) (sym right)
+            (subst (λ (x : Reading). Computes key.operation key.limit x (reading before key.right.0) (reading before answer.0)) (sym left) r.computes));
       }
 
   pub all_right-kept : (es : List (MemoKey × NodeId)) → AllRight before es → AllRight now es
@@ -56,36 +56,36 @@ pub lookup-lacks : (es : List (MemoKey × NodeId)) (key : MemoKey) → Lacks es 
 lookup-lacks [] key l = refl
 lookup-lacks (e ∷ es) key l =
     elim (cases_Bool (key_eq key e.0)) [
-      inl p ↦ absurd (l.0 (sym (key-exact key e.0 p)))
-    | inr p ↦ rw p (lookup-lacks es key l.1)
+      | inl p ↦ absurd (l.0 (sym (key-exact key e.0 p)))
+      | inr p ↦ rw p (lookup-lacks es key l.1)
     ]
 
 pub lookup-none : (es : List (MemoKey × NodeId)) (key : MemoKey) → lookup (key_eq key) es ≡ None → Lacks es key
 lookup-none [] key e = tt
 lookup-none (f ∷ fs) key e =
     elim (cases_Bool (key_eq key f.0)) [
-      inl p ↦ let bad : Some f.1 ≡ None = rw p at e in cc
-    | inr p ↦ ((λ same. true≢false (sym (key-own key) ∙ ap (key_eq key) (sym same) ∙ p)), lookup-none fs key (rw p at e))
+      | inl p ↦ let bad : Some f.1 ≡ None = rw p at e in cc
+      | inr p ↦ ((λ same. true≢false (sym (key-own key) ∙ ap (key_eq key) (sym same) ∙ p)), lookup-none fs key (rw p at e))
     ]
 
 pub lookup-some : (es : List (MemoKey × NodeId)) (key : MemoKey) (answer : NodeId) → lookup (key_eq key) es ≡ Some answer → Has es (key, answer)
 lookup-some [] key answer e = cc
 lookup-some (f ∷ fs) key answer e =
     elim (cases_Bool (key_eq key f.0)) [
-      inl p ↦
-        let same : Some f.1 ≡ Some answer = rw p at e in
-        let value : f.1 ≡ answer = cc in
-        let name = key-exact key f.0 p in
-        inl (λ i. (sym name i, value i))
-    | inr p ↦ inr (lookup-some fs key answer (rw p at e))
+      | inl p ↦
+          let same : Some f.1 ≡ Some answer = rw p at e in
+          let value : f.1 ≡ answer = cc in
+          let name = key-exact key f.0 p in
+          inl (λ i. (sym name i, value i))
+      | inr p ↦ inr (lookup-some fs key answer (rw p at e))
     ]
 
 pub right-has : (ns : List Node) (es : List (MemoKey × NodeId)) (key : MemoKey) (answer : NodeId) → AllRight ns es → Has es (key, answer) → IsRight ns key answer
 right-has ns [] key answer r h = absurd h
 right-has ns (e ∷ es) key answer r h =
     elim h [
-      inl p ↦ subst (λ (x : MemoKey × NodeId). IsRight ns x.0 x.1) p r.0
-    | inr p ↦ right-has ns es key answer r.1 p
+      | inl p ↦ subst (λ (x : MemoKey × NodeId). IsRight ns x.0 x.1) p r.0
+      | inr p ↦ right-has ns es key answer r.1 p
     ]
 
 -- the three clauses of a look-up

@@ -23,8 +23,8 @@ pub stands-below : (k : Kind) (v : ℕ) (ns : List Node) (id : ℕ) → stands k
 stands-below k v [] id h = omega (arith, ltb-true id 2 h)
 stands-below k v (n ∷ older) id h =
     elim (eqb_tells id (next_id older)) [
-      inl p ↦ omega arith
-    | inr p ↦ let ih = stands-below k v older id (rw p.0 at h) in omega arith
+      | inl p ↦ omega arith
+      | inr p ↦ let ih = stands-below k v older id (rw p.0 at h) in omega arith
     ]
 
 -- and at each smaller variable
@@ -32,10 +32,10 @@ pub stands-weaker : (k : Kind) (v w : ℕ) (ns : List Node) (id : ℕ) → w ≤
 stands-weaker k v w [] id le h = h
 stands-weaker k v w (n ∷ older) id le h =
     elim (eqb_tells id (next_id older)) [
-      inl p ↦
-        let parts = and_parts (same_kind n.kind k) (nat_le v n.var) (rw p.0 at h) in
-        rw p.0 (and_from (same_kind n.kind k) (nat_le w n.var) parts.0 (le-leb w n.var (omega (arith, leb-true v n.var parts.1))))
-    | inr p ↦ rw p.0 (stands-weaker k v w older id le (rw p.0 at h))
+      | inl p ↦
+          let parts = and_parts (same_kind n.kind k) (nat_le v n.var) (rw p.0 at h) in
+          rw p.0 (and_from (same_kind n.kind k) (nat_le w n.var) parts.0 (le-leb w n.var (omega (arith, leb-true v n.var parts.1))))
+      | inr p ↦ rw p.0 (stands-weaker k v w older id le (rw p.0 at h))
     ]
 
 -- a terminal stands everywhere
@@ -55,18 +55,18 @@ pub stands-cases : (k : Kind) (v : ℕ) (ns : List Node) (id : ℕ) → stands k
 stands-cases k v [] id h = inl (ltb-true id 2 h)
 stands-cases k v (n ∷ older) id h =
     elim (eqb_tells id (next_id older)) [
-      inl p ↦
-        let parts = and_parts (same_kind n.kind k) (nat_le v n.var) (rw p.0 at h) in
-        inr (record {
-          node = n;
-          at = rw p.0 refl;
-          of_kind = same_kind-exact n.kind k parts.0;
-          from = leb-true v n.var parts.1
-        })
-    | inr p ↦ elim (stands-cases k v older id (rw p.0 at h)) [
-          inl lt ↦ inl lt
+      | inl p ↦
+          let parts = and_parts (same_kind n.kind k) (nat_le v n.var) (rw p.0 at h) in
+          inr (record {
+            node = n;
+            at = rw p.0 refl;
+            of_kind = same_kind-exact n.kind k parts.0;
+            from = leb-true v n.var parts.1;
+          })
+      | inr p ↦ elim (stands-cases k v older id (rw p.0 at h)) [
+        | inl lt ↦ inl lt
         | inr s ↦ inr (record { node = s.node; at = rw p.0 s.at; of_kind = s.of_kind; from = s.from })
-        ]
+      ]
     ]
 
 -- the node at an id that stands is of the kind and has at least the variable
@@ -74,12 +74,12 @@ pub stands-at : (k : Kind) (v : ℕ) (ns : List Node) (id : ℕ) (m : Node) → 
 stands-at k v [] id m h e = cc
 stands-at k v (n ∷ older) id m h e =
     elim (eqb_tells id (next_id older)) [
-      inl p ↦
-        let parts = and_parts (same_kind n.kind k) (nat_le v n.var) (rw p.0 at h) in
-        let same : Some n ≡ Some m = rw p.0 at e in
-        let own : n ≡ m = cc in
-        rw (← own) (same_kind-exact n.kind k parts.0, leb-true v n.var parts.1)
-    | inr p ↦ stands-at k v older id m (rw p.0 at h) (rw p.0 at e)
+      | inl p ↦
+          let parts = and_parts (same_kind n.kind k) (nat_le v n.var) (rw p.0 at h) in
+          let same : Some n ≡ Some m = rw p.0 at e in
+          let own : n ≡ m = cc in
+          rw (← own) (same_kind-exact n.kind k parts.0, leb-true v n.var parts.1)
+      | inr p ↦ stands-at k v older id m (rw p.0 at h) (rw p.0 at e)
     ]
 
 -- a terminal has no node
@@ -93,8 +93,8 @@ pub node_at-below : (ns : List Node) (id : ℕ) (m : Node) → node_at ns id ≡
 node_at-below [] id m e = cc
 node_at-below (n ∷ older) id m e =
     elim (eqb_tells id (next_id older)) [
-      inl p ↦ omega arith
-    | inr p ↦ let ih = node_at-below older id m (rw p.0 at e) in omega arith
+      | inl p ↦ omega arith
+      | inr p ↦ let ih = node_at-below older id m (rw p.0 at e) in omega arith
     ]
 
 -- and past the terminals
@@ -102,8 +102,8 @@ pub node_at-past : (ns : List Node) (id : ℕ) (m : Node) → node_at ns id ≡ 
 node_at-past [] id m e = cc
 node_at-past (n ∷ older) id m e =
     elim (eqb_tells id (next_id older)) [
-      inl p ↦ omega arith
-    | inr p ↦ node_at-past older id m (rw p.0 at e)
+      | inl p ↦ omega arith
+      | inr p ↦ node_at-past older id m (rw p.0 at e)
     ]
 
 -- each id between is a node
@@ -111,8 +111,8 @@ pub node_at-some : (ns : List Node) (id : ℕ) → 2 ≤ id → id < length ns +
 node_at-some [] id past below = absurd (omega arith)
 node_at-some (n ∷ older) id past below =
     elim (eqb_tells id (next_id older)) [
-      inl p ↦ (n, rw p.0 refl)
-    | inr p ↦ let r = node_at-some older id past (omega (arith, p.1)) in (r.0, rw p.0 r.1)
+      | inl p ↦ (n, rw p.0 refl)
+      | inr p ↦ let r = node_at-some older id past (omega (arith, p.1)) in (r.0, rw p.0 r.1)
     ]
 
 -- a node stands at its variable
@@ -120,11 +120,11 @@ pub stands-node : (ns : List Node) (id : ℕ) (m : Node) → node_at ns id ≡ S
 stands-node [] id m e = cc
 stands-node (n ∷ older) id m e =
     elim (eqb_tells id (next_id older)) [
-      inl p ↦
-        let same : Some n ≡ Some m = rw p.0 at e in
-        let own : n ≡ m = cc in
-        rw p.0 (rw own (and_from (same_kind m.kind m.kind) (nat_le m.var m.var) (same_kind-own m.kind) (le-leb m.var m.var (omega arith))))
-    | inr p ↦ rw p.0 (stands-node older id m (rw p.0 at e))
+      | inl p ↦
+          let same : Some n ≡ Some m = rw p.0 at e in
+          let own : n ≡ m = cc in
+          rw p.0 (rw own (and_from (same_kind m.kind m.kind) (nat_le m.var m.var) (same_kind-own m.kind) (le-leb m.var m.var (omega arith))))
+      | inr p ↦ rw p.0 (stands-node older id m (rw p.0 at e))
     ]
 
 -- and its level is its first literal
@@ -132,11 +132,11 @@ pub level-node : (ns : List Node) (id : ℕ) (m : Node) → node_at ns id ≡ So
 level-node [] id m e = cc
 level-node (n ∷ older) id m e =
     elim (eqb_tells id (next_id older)) [
-      inl p ↦
-        let same : Some n ≡ Some m = rw p.0 at e in
-        let own : n ≡ m = cc in
-        rw p.0 (rw own refl)
-    | inr p ↦ rw p.0 (level-node older id m (rw p.0 at e))
+      | inl p ↦
+          let same : Some n ≡ Some m = rw p.0 at e in
+          let own : n ≡ m = cc in
+          rw p.0 (rw own refl)
+      | inr p ↦ rw p.0 (level-node older id m (rw p.0 at e))
     ]
 
 pub level-terminal : (ns : List Node) (id : ℕ) → id < 2 → level ns id ≡ 2 ^ 33
@@ -160,8 +160,8 @@ first_literal-bound Zbdd v lt = omega arith
 pub level-stands : (k : Kind) (v : ℕ) (ns : List Node) (id : ℕ) → v ≤ 2 ^ 32 → stands k v ns id ≡ true → first_literal k v ≤ level ns id
 level-stands k v ns id bound h =
     elim (stands-cases k v ns id h) [
-      inl lt ↦ rw (level-terminal ns id lt) (top k v bound)
-    | inr s ↦ rw (level-node ns id s.node s.at) (rw s.of_kind (first_literal-grows k v s.node.var s.from))
+      | inl lt ↦ rw (level-terminal ns id lt) (top k v bound)
+      | inr s ↦ rw (level-node ns id s.node s.at) (rw s.of_kind (first_literal-grows k v s.node.var s.from))
     ]
   where
     top : (k : Kind) (v : ℕ) → v ≤ 2 ^ 32 → first_literal k v ≤ 2 ^ 33
@@ -172,9 +172,9 @@ level-stands k v ns id bound h =
 pub stands-split : (k : Kind) (v : ℕ) (ns : List Node) (id : ℕ) → stands k 0 ns id ≡ true → (stands k v ns id ≡ true) ⊎ ((m : Node) × (node_at ns id ≡ Some m) × (m.kind ≡ k) × (m.var < v))
 stands-split k v ns id h =
     elim (stands-cases k 0 ns id h) [
-      inl lt ↦ inl (stands-terminal k v ns id lt)
-    | inr s ↦ elim (leb_tells v s.node.var) [
-          inl p ↦ inl (rw (sym s.of_kind) (stands-weaker s.node.kind s.node.var v ns id p.1 (stands-node ns id s.node s.at)))
+      | inl lt ↦ inl (stands-terminal k v ns id lt)
+      | inr s ↦ elim (leb_tells v s.node.var) [
+        | inl p ↦ inl (rw (sym s.of_kind) (stands-weaker s.node.kind s.node.var v ns id p.1 (stands-node ns id s.node s.at)))
         | inr p ↦ inr (s.node, s.at, s.of_kind, p.1)
-        ]
+      ]
     ]

@@ -30,9 +30,9 @@ module _ (t : Table) (n : Node) (hi : stands n.kind (n.var + 1) t.nodes n.hi.0 �
 
   grown : (now : Table) → ((now ≡ t) ⊎ ((now ≡ record t { nodes = n ∷ t.nodes }) × Fits t.nodes n)) → Grown t.nodes now.nodes
   grown now a = elim a [
-      inl p ↦ subst (λ (x : Table). Grown t.nodes x.nodes) (sym p) (grown-own t.nodes)
+    | inl p ↦ subst (λ (x : Table). Grown t.nodes x.nodes) (sym p) (grown-own t.nodes)
     | inr p ↦ subst (λ (x : Table). Grown t.nodes x.nodes) (sym p.0) (grown-cons n t.nodes)
-    ]
+  ]
 
   pub made_ok : (now : Table) (id : NodeId) → IsTable now → node_at now.nodes id.0 ≡ Some n → ((now ≡ t) ⊎ ((now ≡ record t { nodes = n ∷ t.nodes }) × Fits t.nodes n)) → (IsRefused t.nodes t.limit n → ⊥) → MakesNode n t now (Ok id)
   made_ok now id table there added not_refused =
@@ -48,7 +48,7 @@ module _ (t : Table) (n : Node) (hi : stands n.kind (n.var + 1) t.nodes n.hi.0 �
         added = added;
         full = ((λ e. cc), (λ r. absurd (not_refused r)));
         at_full = λ e. cc;
-        at_memory = λ e. cc
+        at_memory = λ e. cc;
       }
 
   pub made_full : IsRefused t.nodes t.limit n → MakesNode n t (record t { refused = Some n }) (Err Full)
@@ -61,7 +61,7 @@ module _ (t : Table) (n : Node) (hi : stands n.kind (n.var + 1) t.nodes n.hi.0 �
     added = tt;
     full = ((λ e. r), (λ h. refl));
     at_full = λ e. refl;
-    at_memory = λ e. cc
+    at_memory = λ e. cc;
   }
 
   pub made_memory : (IsRefused t.nodes t.limit n → ⊥) → IsNew t.nodes n → MakesNode n t t (Err Memory)
@@ -74,7 +74,7 @@ module _ (t : Table) (n : Node) (hi : stands n.kind (n.var + 1) t.nodes n.hi.0 �
     added = tt;
     full = ((λ e. cc), (λ r. absurd (not_refused r)));
     at_full = λ e. cc;
-    at_memory = λ e. (refl, fits new)
+    at_memory = λ e. (refl, fits new);
   }
 
 -- the table after a new node, where the limit allows one more
@@ -84,12 +84,13 @@ table-added t n ok fits room = record {
   right = all_right-kept (grown-cons n t.nodes) t.entries ok.right;
   different = ok.different;
   within = within t.limit ok.within room;
-  refused = refused t.refused ok.refused
+  refused = refused t.refused ok.refused;
 }
   where
     within : (limit : Option ℕ) → IfSome limit (λ l. length t.nodes ≤ l) → (limit ≡ Some (length t.nodes) → ⊥) → IfSome limit (λ l. length (n ∷ t.nodes) ≤ l)
     within None h r = tt
     within (Some l) h r = elim (eqb_tells l (length t.nodes)) [ inl p ↦ absurd (r (ap Some p.1)) | inr p ↦ omega (arith, p.1, h) ]
+
     refused : (o : Option Node) → IfSome o (IsRefused t.nodes t.limit) → IfSome o (IsRefused (n ∷ t.nodes) t.limit)
     refused None h = tt
     refused (Some m) h = absurd (room h.full)
@@ -107,10 +108,10 @@ module _ (before now : List Node) (entries : List (MemoKey × NodeId)) (limit : 
 
   table_by : IsAdding → IsTable (table_of now entries limit refused)
   table_by a = elim a [
-      inl p ↦ subst (λ (ns : List Node). IsTable (table_of ns entries limit refused)) (sym p) ok
+    | inl p ↦ subst (λ (ns : List Node). IsTable (table_of ns entries limit refused)) (sym p) ok
     | inr p ↦ subst (λ (ns : List Node). IsTable (table_of ns entries limit refused)) (sym p.0)
         (table-added (table_of before entries limit refused) n ok (fits (table_of before entries limit refused) n hi lo reduced p.1) room)
-    ]
+  ]
 
   pub added_table : (answer : Result NodeId NodeError) → IfOk answer (λ _. IsAdding) → OnErr answer ((now ≡ before) × IsNew before n) → IsTable (table_of now entries limit refused)
   added_table (Ok id) a e = table_by a
@@ -120,15 +121,15 @@ module _ (before now : List Node) (entries : List (MemoKey × NodeId)) (limit : 
       → MakesNode n (table_of before entries limit refused) (table_of now entries limit refused) answer
   added_makes (Ok id) there a e m =
       made_ok (table_of before entries limit refused) n hi lo reduced (table_of now entries limit refused) id (table_by a) there
-        (elim a [
-          inl p ↦ inl (ap (λ (ns : List Node). table_of ns entries limit refused) p)
+      (elim a [
+        | inl p ↦ inl (ap (λ (ns : List Node). table_of ns entries limit refused) p)
         | inr p ↦ inr (ap (λ (ns : List Node). table_of ns entries limit refused) p.0, fits (table_of before entries limit refused) n hi lo reduced p.1)
-        ])
-        (λ r. room r.full)
+      ])
+      (λ r. room r.full)
   added_makes (Err d) there a e m =
       subst (λ (x : NodeError). MakesNode n (table_of before entries limit refused) (table_of now entries limit refused) (Err x)) (sym m)
-        (subst (λ (ns : List Node). MakesNode n (table_of before entries limit refused) (table_of ns entries limit refused) (Err Memory)) (sym e.0)
-          (made_memory (table_of before entries limit refused) n hi lo reduced (λ r. room r.full) e.1))
+      (subst (λ (ns : List Node). MakesNode n (table_of before entries limit refused) (table_of ns entries limit refused) (Err Memory)) (sym e.0)
+      (made_memory (table_of before entries limit refused) n hi lo reduced (λ r. room r.full) e.1))
 
 -- a triple that is not reduced reads as its `lo`
 abbrev pub IsPassed : Kind → ℕ → ℕ → Type 0
@@ -146,9 +147,9 @@ passed-reads ns fit Zbdd v hi lo sl p = by
     by : (set : List ℕ) → has ns lo set ≡ joined v (has ns hi) (has ns lo) set
     by [] = refl
     by (y ∷ ys) = elim (eqb_tells y v) [
-        inl e ↦ rw e.0 (has-below ns fit (v + 1) lo sl y ys (omega arith) ∙ sym (ap (λ x. has ns x ys) p ∙ has-zero ns ys))
+      | inl e ↦ rw e.0 (has-below ns fit (v + 1) lo sl y ys (omega arith) ∙ sym (ap (λ x. has ns x ys) p ∙ has-zero ns ys))
       | inr e ↦ rw e.0 refl
-      ]
+    ]
 
 pub made_passed : (t : Table) → IsTable t → (n : Node) → stands n.kind (n.var + 1) t.nodes n.lo.0 ≡ true → IsPassed n.kind n.hi.0 n.lo.0 → MakesNode n t t (Ok n.lo)
 made_passed t ok n lo p =
@@ -162,7 +163,7 @@ made_passed t ok n lo p =
       added = inl refl;
       full = ((λ e. cc), (λ r. absurd (no r.fits.reduced)));
       at_full = λ e. cc;
-      at_memory = λ e. cc
+      at_memory = λ e. cc;
     }
 
 -- a table with one more entry
@@ -172,5 +173,5 @@ table-entered t key answer ok right lacks = record {
   right = all_right-append t.nodes t.entries ((key, answer) ∷ []) ok.right (right, tt);
   different = different-push t.entries key answer ok.different lacks;
   within = ok.within;
-  refused = ok.refused
+  refused = ok.refused;
 }

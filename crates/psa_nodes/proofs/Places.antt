@@ -31,9 +31,9 @@ slice_get-reverse (n ∷ older) i =
   where
     test : (i == length (reverse older)) ≡ (i + 2 == length older + 2)
     test = elim (eqb_tells i (length (reverse older))) [
-        inl p ↦ p.0 ∙ sym (eq-eqb (i + 2) (length older + 2) (omega (arith, length-reverse older)))
+      | inl p ↦ p.0 ∙ sym (eq-eqb (i + 2) (length older + 2) (omega (arith, length-reverse older)))
       | inr p ↦ p.0 ∙ sym (ne_eqb (i + 2) (length older + 2) (λ e. p.1 (omega (arith, length-reverse older))))
-      ]
+    ]
 
 -- the node of the id is at place id - 2
 pub node_at-key : (keys : List Node) (i : ℕ) → node_at (reverse keys) (i + 2) ≡ slice_get keys i
@@ -44,8 +44,8 @@ pub find-passes : {X : Type 0} (test : X → Bool) (xs : List X) (x : X) → fin
 find-passes test [] x e = cc
 find-passes test (y ∷ ys) x e =
     elim (cases_Bool (test y)) [
-      inl p ↦ let same : Some y ≡ Some x = rw p at e in let own : y ≡ x = cc in sym (ap test own) ∙ p
-    | inr p ↦ find-passes test ys x (rw p at e)
+      | inl p ↦ let same : Some y ≡ Some x = rw p at e in let own : y ≡ x = cc in sym (ap test own) ∙ p
+      | inr p ↦ find-passes test ys x (rw p at e)
     ]
 
 -- the node that the look-up found is the one that was asked for
@@ -64,8 +64,8 @@ new-any : (keys : List Node) (n : Node) → list_any (node_eq n) keys ≡ false 
 new-any [] n h = tt
 new-any (k ∷ ks) n h =
     elim (cases_Bool (node_eq n k)) [
-      inl p ↦ let bad : true ≡ false = rw p at h in absurd (true≢false bad)
-    | inr p ↦ ((λ e. true≢false (sym (node-own n) ∙ ap (node_eq n) (sym e) ∙ p)), new-any ks n (rw p at h))
+      | inl p ↦ let bad : true ≡ false = rw p at h in absurd (true≢false bad)
+      | inr p ↦ ((λ e. true≢false (sym (node-own n) ∙ ap (node_eq n) (sym e) ∙ p)), new-any ks n (rw p at h))
     ]
 
 -- a node that the look-up does not find is new
@@ -76,8 +76,8 @@ new-absent keys n h = new-reverse keys n (new-any keys n h)
 pub inserted : (keys now : List Node) (n : Node) → now ≡ insert_key node_eq keys n → (reverse now ≡ reverse keys) ⊎ ((reverse now ≡ n ∷ reverse keys) × IsNew (reverse keys) n)
 inserted keys now n e =
     elim (cases_Bool (list_any (node_eq n) keys)) [
-      inl p ↦ let same = rw p at e in inl (ap reverse same)
-    | inr p ↦ let pushed = rw p at e in inr (ap reverse pushed ∙ reverse-push keys n, new-absent keys n p)
+      | inl p ↦ let same = rw p at e in inl (ap reverse same)
+      | inr p ↦ let pushed = rw p at e in inr (ap reverse pushed ∙ reverse-push keys n, new-absent keys n p)
     ]
 
 -- an id with a node

@@ -19,13 +19,13 @@ pub has-below : (ns : List Node) → AllFit ns → (v id : ℕ) → stands Zbdd 
 has-below [] fit v id h y ys lt = and_right (id == 1) false refl
 has-below (n ∷ older) fit v id h y ys lt =
     elim (eqb_tells id (next_id older)) [
-      inl p ↦
-        let parts = and_parts (same_kind n.kind Zbdd) (nat_le v n.var) (rw p.0 at h) in
-        let kind = same_kind-exact n.kind Zbdd parts.0 in
-        let from = leb-true v n.var parts.1 in
-        rw p.0 (rw (ne_eqb y n.var (λ e. omega arith))
-            (has-below older fit.1 (n.var + 1) n.lo.0 (rw kind at fit.0.lo) y ys (omega arith)))
-    | inr p ↦ rw p.0 (has-below older fit.1 v id (rw p.0 at h) y ys lt)
+      | inl p ↦
+          let parts = and_parts (same_kind n.kind Zbdd) (nat_le v n.var) (rw p.0 at h) in
+          let kind = same_kind-exact n.kind Zbdd parts.0 in
+          let from = leb-true v n.var parts.1 in
+          rw p.0 (rw (ne_eqb y n.var (λ e. omega arith))
+          (has-below older fit.1 (n.var + 1) n.lo.0 (rw kind at fit.0.lo) y ys (omega arith)))
+      | inr p ↦ rw p.0 (has-below older fit.1 v id (rw p.0 at h) y ys lt)
     ]
 
 -- the terminal 0 is the empty family

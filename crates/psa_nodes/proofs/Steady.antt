@@ -62,7 +62,7 @@ module _ {Origin : Kind → ℕ → Reading → Type 0} {low : ℕ} where
     nodes = grown-own t.nodes;
     entries = record { more = []; appended = sym (append-nil t.entries); past = tt };
     same_limit = refl;
-    added = λ id n at. inl at
+    added = λ id n at. inl at;
   }
 
   -- one step after another
@@ -75,16 +75,16 @@ module _ {Origin : Kind → ℕ → Reading → Type 0} {low : ℕ} where
       appended = b.entries.appended ∙ ap (λ es. es ++ b.entries.more) a.entries.appended ∙ append_assoc first.entries a.entries.more b.entries.more;
       past = past-append third.nodes low a.entries.more b.entries.more
           (past-kept b.nodes low a.entries.more (added-right second first.entries a.entries.more a.table a.entries.appended) a.entries.past)
-          b.entries.past
+          b.entries.past;
     };
     same_limit = b.same_limit ∙ a.same_limit;
     added = λ id n at. elim (b.added id n at) [
-        inl older ↦ elim (a.added id n older) [
-            inl oldest ↦ inl oldest
-          | inr from ↦ inr (subst (IsFrom Origin low n) (sym (reading-kept b.nodes id (node_at-below second.nodes id n older))) from)
-          ]
-      | inr from ↦ inr from
+      | inl older ↦ elim (a.added id n older) [
+        | inl oldest ↦ inl oldest
+        | inr from ↦ inr (subst (IsFrom Origin low n) (sym (reading-kept b.nodes id (node_at-below second.nodes id n older))) from)
       ]
+      | inr from ↦ inr from
+    ];
   }
 
   -- a key below the steps is lacked still
@@ -99,7 +99,7 @@ module _ {Origin : Kind → ℕ → Reading → Type 0} {low : ℕ} where
     nodes = grown-own t.nodes;
     entries = record { more = (key, answer) ∷ []; appended = refl; past = (past, tt) };
     same_limit = refl;
-    added = λ id n at. inl at
+    added = λ id n at. inl at;
   }
 
   -- a node was added
@@ -109,18 +109,18 @@ module _ {Origin : Kind → ℕ → Reading → Type 0} {low : ℕ} where
     nodes = grown-cons n t.nodes;
     entries = record { more = []; appended = sym (append-nil t.entries); past = tt };
     same_limit = refl;
-    added = added
+    added = added;
   }
     where
       added : AreNew Origin low t.nodes (n ∷ t.nodes)
       added id m at =
           elim (eqb_tells id (next_id t.nodes)) [
-            inl p ↦
-              let same : Some n ≡ Some m = rw p.0 at at in
-              let own : n ≡ m = cc in
-              inr (subst (λ (x : Node). IsFrom Origin low x (reading (n ∷ t.nodes) id)) own
+            | inl p ↦
+                let same : Some n ≡ Some m = rw p.0 at at in
+                let own : n ≡ m = cc in
+                inr (subst (λ (x : Node). IsFrom Origin low x (reading (n ∷ t.nodes) id)) own
                 (subst (IsFrom Origin low n) (sym (ap (reading (n ∷ t.nodes)) p.1 ∙ reading-newest n t.nodes)) from))
-          | inr p ↦ inl (rw p.0 at at)
+            | inr p ↦ inl (rw p.0 at at)
           ]
 
   module _ {A : Type 0} where
@@ -141,7 +141,7 @@ module _ {Origin : Kind → ℕ → Reading → Type 0} {low : ℕ} where
     call-error {B} e c = record {
       progress = c.progress;
       full = λ p. c.full (let q : e ≡ Full = cc in ap (λ (x : NodeError). let r : Result A NodeError = Err x in r) q);
-      kept = λ ne. c.kept (λ p. ne (let q : e ≡ Full = cc in ap (λ (x : NodeError). let r : Result B NodeError = Err x in r) q))
+      kept = λ ne. c.kept (λ p. ne (let q : e ≡ Full = cc in ap (λ (x : NodeError). let r : Result B NodeError = Err x in r) q));
     }
 
     -- one call after another that was answered
@@ -149,7 +149,7 @@ module _ {Origin : Kind → ℕ → Reading → Type 0} {low : ℕ} where
     call-then answer last a b = record {
       progress = progress-then a.progress b.progress;
       full = b.full;
-      kept = λ ne. b.kept ne ∙ a.kept (λ e. cc)
+      kept = λ ne. b.kept ne ∙ a.kept (λ e. cc);
     }
 
 -- for a lower start and a wider origin
@@ -163,14 +163,14 @@ module _ {Origin Wide : Kind → ℕ → Reading → Type 0} {low wide : ℕ} (l
     nodes = p.nodes;
     entries = record { more = p.entries.more; appended = p.entries.appended; past = past-lower now.nodes low wide le p.entries.more p.entries.past };
     same_limit = p.same_limit;
-    added = λ id n at. elim (p.added id n at) [ inl older ↦ inl older | inr from ↦ inr (from-wide n (reading now.nodes id) from) ]
+    added = λ id n at. elim (p.added id n at) [ inl older ↦ inl older | inr from ↦ inr (from-wide n (reading now.nodes id) from) ];
   }
 
   pub call-wide : {A : Type 0} {before now : Table} (answer : Result A NodeError) → IsCall Origin low before now answer → IsCall Wide wide before now answer
   call-wide {A} {before} {now} answer c = record {
     progress = progress-wide c.progress;
     full = λ e. let f = c.full e in record { triple = f.triple; last = f.last; refusal = f.refusal; from = from-wide f.triple (node_reading now.nodes f.triple) f.from };
-    kept = c.kept
+    kept = c.kept;
   }
 
 -- asking for a node is such a call
@@ -178,9 +178,9 @@ module _ {Origin : Kind → ℕ → Reading → Type 0} {low : ℕ} (n : Node) (
   node_ok : (now : Table) (id : NodeId) → IsTable now → (now ≡ before) ⊎ (now ≡ record before { nodes = n ∷ before.nodes }) → IsCall Origin low before now (Ok id)
   node_ok now id good a =
       elim a [
-        inl p ↦ subst (λ (t : Table). IsCall Origin low before t (Ok id)) (sym p) (call-same before id ok)
-      | inr p ↦ subst (λ (t : Table). IsCall Origin low before t (Ok id)) (sym p)
-          (call-done id (progress-node before n (subst IsTable p good) from) refl)
+        | inl p ↦ subst (λ (t : Table). IsCall Origin low before t (Ok id)) (sym p) (call-same before id ok)
+        | inr p ↦ subst (λ (t : Table). IsCall Origin low before t (Ok id)) (sym p)
+            (call-done id (progress-node before n (subst IsTable p good) from) refl)
       ]
 
   pub call-node : (now : Table) (answer : Result NodeId NodeError) → IsTable now → MakesNode n before now answer → IsCall Origin low before now answer
@@ -196,18 +196,18 @@ module _ {Origin : Kind → ℕ → Reading → Type 0} {low : ℕ} (n : Node) (
           nodes = grown-own before.nodes;
           entries = record { more = []; appended = sym (append-nil before.entries); past = tt };
           same_limit = refl;
-          added = λ id k at. inl at
+          added = λ id k at. inl at;
         };
         full = λ e. record { triple = n; last = refl; refusal = m.full.0 refl; from = from };
-        kept = λ ne. absurd (ne refl)
+        kept = λ ne. absurd (ne refl);
       })
 
 -- asking for a node adds nodes alone
 pub made-grown : (n : Node) (before now : Table) (id : NodeId) → MakesNode n before now (Ok id) → Grown before.nodes now.nodes
 made-grown n before now id m =
     elim m.added [
-      inl p ↦ subst (λ (t : Table). Grown before.nodes t.nodes) (sym p) (grown-own before.nodes)
-    | inr p ↦ subst (λ (t : Table). Grown before.nodes t.nodes) (sym p.0) (grown-cons n before.nodes)
+      | inl p ↦ subst (λ (t : Table). Grown before.nodes t.nodes) (sym p) (grown-own before.nodes)
+      | inr p ↦ subst (λ (t : Table). Grown before.nodes t.nodes) (sym p.0) (grown-cons n before.nodes)
     ]
 
 -- an id that stands and is no terminal has a node

@@ -16,15 +16,15 @@ pub truth-agree : (ns : List Node) → AllFit ns → (v id : ℕ) → stands Bdd
 truth-agree [] fit v id h s t same = refl
 truth-agree (n ∷ older) fit v id h s t same =
     elim (eqb_tells id (next_id older)) [
-      inl p ↦
-        let parts = and_parts (same_kind n.kind Bdd) (nat_le v n.var) (rw p.0 at h) in
-        let kind = same_kind-exact n.kind Bdd parts.0 in
-        let from = leb-true v n.var parts.1 in
-        let later : (y : ℕ) → n.var + 1 ≤ y → s y ≡ t y = λ y le. same y (omega arith) in
-        rw p.0 (choice-same (s n.var) (t n.var) _ _ _ _ (same n.var from)
-            (truth-agree older fit.1 (n.var + 1) n.hi.0 (rw kind at fit.0.hi) s t later)
-            (truth-agree older fit.1 (n.var + 1) n.lo.0 (rw kind at fit.0.lo) s t later))
-    | inr p ↦ rw p.0 (truth-agree older fit.1 v id (rw p.0 at h) s t same)
+      | inl p ↦
+          let parts = and_parts (same_kind n.kind Bdd) (nat_le v n.var) (rw p.0 at h) in
+          let kind = same_kind-exact n.kind Bdd parts.0 in
+          let from = leb-true v n.var parts.1 in
+          let later : (y : ℕ) → n.var + 1 ≤ y → s y ≡ t y = λ y le. same y (omega arith) in
+          rw p.0 (choice-same (s n.var) (t n.var) _ _ _ _ (same n.var from)
+          (truth-agree older fit.1 (n.var + 1) n.hi.0 (rw kind at fit.0.hi) s t later)
+          (truth-agree older fit.1 (n.var + 1) n.lo.0 (rw kind at fit.0.lo) s t later))
+      | inr p ↦ rw p.0 (truth-agree older fit.1 v id (rw p.0 at h) s t same)
     ]
 
 -- s, with x put in or out

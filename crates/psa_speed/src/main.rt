@@ -5,10 +5,9 @@
 mod work;
 
 use psa_nodes::NodeTable;
-use std::env;
-use std::io;
 use std::marker::Brand;
 use std::sync::ledger::Blank;
+use std::{env, io};
 
 /// The number that a word spells, or the default where it spells none.
 fn number(word: Option<String>, default: u32) -> u32 {

@@ -27,8 +27,8 @@ module _ (c : Connective) (old : Table) (ok : IsTable old) (left right : NodeId)
   asked : (now : Table) (answer : Result NodeId NodeError) → IsTable now → MakesNode triple old now answer → Called now answer
   asked now answer good made =
       call-node triple old ok
-        (record { past = omega arith; origin = own-origin c old.nodes ok.fit left.0 right.0 var hi.0 lo.0 ready (node_reading old.nodes triple) (λ s. refl) })
-        now answer good made
+      (record { past = omega arith; origin = own-origin c old.nodes ok.fit left.0 right.0 var hi.0 lo.0 ready (node_reading old.nodes triple) (λ s. refl) })
+      now answer good made
 
   module _ (now : Table) (id : NodeId) (good : IsTable now) (made : MakesNode triple old now (Ok id)) where
     left_now : stands Bdd var now.nodes left.0 ≡ true
@@ -43,7 +43,7 @@ module _ (c : Connective) (old : Table) (ok : IsTable old) (left right : NodeId)
     its_right : IsRight now.nodes (key_of c left right) id
     its_right =
         right-key c now.nodes left right id
-          (stands-weaker Bdd var 0 now.nodes left.0 (omega arith) left_now) (stands-weaker Bdd var 0 now.nodes right.0 (omega arith) right_now) its_result
+        (stands-weaker Bdd var 0 now.nodes left.0 (omega arith) left_now) (stands-weaker Bdd var 0 now.nodes right.0 (omega arith) right_now) its_result
 
     its_level : 2 * var ≤ key_level now.nodes (key_of c left right)
     its_level =
@@ -55,45 +55,45 @@ module _ (c : Connective) (old : Table) (ok : IsTable old) (left right : NodeId)
     entered : (key : MemoKey) → key ≡ key_of c left right → (after : Table) → after ≡ record now { entries = now.entries ++ (key, id) ∷ [] } → IsTable after → Called after (Ok id)
     entered key e after same after_good =
         subst (λ (t : Table). Called t (Ok id)) (sym same)
-          (call-then id (Ok id) (asked now (Ok id) good made)
-            (call-done id (progress-remember now key id (subst IsTable same after_good) (rw e its_level)) refl))
+        (call-then id (Ok id) (asked now (Ok id) good made)
+        (call-done id (progress-remember now key id (subst IsTable same after_good) (rw e its_level)) refl))
 
     -- or memory was wanted for it
     wanted : (after : Table) → after ≡ now → Called after (Err Memory)
     wanted after same =
         subst (λ (t : Table). Called t (Err Memory)) (sym same)
-          (call-then id (Err Memory) (asked now (Ok id) good made) (call-memory (progress-own now good) refl))
+        (call-then id (Err Memory) (asked now (Ok id) good made) (call-memory (progress-own now good) refl))
 
 pub returns-in_err-id-clause-call : goal.returns-in_err-id-clause-call
 returns-in_err-id-clause-call c =
     let a = c.args in
     let p = err_from_is_err_and c.from_residual.result c.from_residual.ensures.1 in
     rw (p.1, p.2) (asked a.connective a.table.now c.requires.table a.left a.right a.var a.hi a.lo c.requires.ready (omega (arith, c.ranges.var.fits))
-      c.bdd_node.new.self (Err c.in_err-id.field-0.0) c.in_err-id.ensures.table c.in_err-id.ensures.made)
+    c.bdd_node.new.self (Err c.in_err-id.field-0.0) c.in_err-id.ensures.table c.in_err-id.ensures.made)
 
 pub remember-requires-clause-right : goal.remember-requires-clause-right
 remember-requires-clause-right c =
     let a = c.args in
     rw c.key.ensures (its_right a.connective a.table.now c.requires.table a.left a.right a.var a.hi a.lo c.requires.ready (omega (arith, c.ranges.var.fits))
-      c.bdd_node.new.self c.in_ok-id.id c.in_ok-id.ensures.table c.in_ok-id.ensures.made)
+    c.bdd_node.new.self c.in_ok-id.id c.in_ok-id.ensures.table c.in_ok-id.ensures.made)
 
 pub returns-in-Ok-clause-combined : goal.returns-in-Ok-clause-combined
 returns-in-Ok-clause-combined c =
     let a = c.args in
     subst (λ (t : Table). IsResult (operation_of a.connective) 0 t.nodes a.left.0 a.right.0 c.in_ok-id.id.0) (sym c.in-Ok.ensures.ok)
-      (its_result a.connective a.table.now c.requires.table a.left a.right a.var a.hi a.lo c.requires.ready (omega (arith, c.ranges.var.fits))
-        c.bdd_node.new.self c.in_ok-id.id c.in_ok-id.ensures.table c.in_ok-id.ensures.made)
+    (its_result a.connective a.table.now c.requires.table a.left a.right a.var a.hi a.lo c.requires.ready (omega (arith, c.ranges.var.fits))
+    c.bdd_node.new.self c.in_ok-id.id c.in_ok-id.ensures.table c.in_ok-id.ensures.made)
 
 pub returns-in-Ok-clause-call : goal.returns-in-Ok-clause-call
 returns-in-Ok-clause-call c =
     let a = c.args in
     entered a.connective a.table.now c.requires.table a.left a.right a.var a.hi a.lo c.requires.ready (omega (arith, c.ranges.var.fits))
-      c.bdd_node.new.self c.in_ok-id.id c.in_ok-id.ensures.table c.in_ok-id.ensures.made
-      c.key.result c.key.ensures c.remember.new.self c.in-Ok.ensures.ok c.remember.ensures.table
+    c.bdd_node.new.self c.in_ok-id.id c.in_ok-id.ensures.table c.in_ok-id.ensures.made
+    c.key.result c.key.ensures c.remember.new.self c.in-Ok.ensures.ok c.remember.ensures.table
 
 pub returns-in-Err-clause-call : goal.returns-in-Err-clause-call
 returns-in-Err-clause-call c =
     let a = c.args in
     wanted a.connective a.table.now c.requires.table a.left a.right a.var a.hi a.lo c.requires.ready (omega (arith, c.ranges.var.fits))
-      c.bdd_node.new.self c.in_ok-id.id c.in_ok-id.ensures.table c.in_ok-id.ensures.made
-      c.remember.new.self c.in-Err.ensures.err
+    c.bdd_node.new.self c.in_ok-id.id c.in_ok-id.ensures.table c.in_ok-id.ensures.made
+    c.remember.new.self c.in-Err.ensures.err

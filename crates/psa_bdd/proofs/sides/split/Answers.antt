@@ -49,7 +49,7 @@ returns-clause-least g c =
     let first_there = c.node-first.ensures.node in
     let second_there = c.node-second.ensures.node in
     let first_level : level ns c.args.left.0 ≡ 2 * first.var =
-          level-node ns c.args.left.0 first first_there ∙ ap (λ (k : Kind). first_literal k first.var) (stands-at Bdd 0 ns c.args.left.0 first c.requires.left first_there).0 in
+    level-node ns c.args.left.0 first first_there ∙ ap (λ (k : Kind). first_literal k first.var) (stands-at Bdd 0 ns c.args.left.0 first c.requires.left first_there).0 in
     let second_level : level ns c.args.right.0 ≡ 2 * second.var =
-          level-node ns c.args.right.0 second second_there ∙ ap (λ (k : Kind). first_literal k second.var) (stands-at Bdd 0 ns c.args.right.0 second c.requires.right second_there).0 in
+    level-node ns c.args.right.0 second second_there ∙ ap (λ (k : Kind). first_literal k second.var) (stands-at Bdd 0 ns c.args.right.0 second c.requires.right second_there).0 in
     least (level ns c.args.left.0) (level ns c.args.right.0) first.var second.var c.min-var.result first_level second_level c.min-var.ensures

@@ -18,7 +18,7 @@ bdd_node-requires-2-clause-lo g c = stands-terminal Bdd 2 c.bdd_node.new.self.no
 pub and-requires-clause-left : goal.and-requires-clause-left
 and-requires-clause-left g c =
     stands-kept (made-grown _ c.bdd_node.new.self c.bdd_node-2.new.self c.in_ok-second.second c.in_ok-second.ensures.made) Bdd 0 c.in_ok-first.first.0
-      (stands-weaker Bdd 0 0 c.bdd_node.new.self.nodes c.in_ok-first.first.0 (omega arith) c.in_ok-first.ensures.made.stands_at)
+    (stands-weaker Bdd 0 0 c.bdd_node.new.self.nodes c.in_ok-first.first.0 (omega arith) c.in_ok-first.ensures.made.stands_at)
 
 pub and-requires-clause-right : goal.and-requires-clause-right
 and-requires-clause-right g c =
@@ -27,13 +27,13 @@ and-requires-clause-right g c =
 pub or-requires-clause-left : goal.or-requires-clause-left
 or-requires-clause-left g c =
     stands-kept c.in_ok-both.ensures.call.progress.nodes Bdd 0 c.in_ok-first.first.0
-      (stands-kept (made-grown _ c.bdd_node.new.self c.bdd_node-2.new.self c.in_ok-second.second c.in_ok-second.ensures.made) Bdd 0 c.in_ok-first.first.0
-        (stands-weaker Bdd 0 0 c.bdd_node.new.self.nodes c.in_ok-first.first.0 (omega arith) c.in_ok-first.ensures.made.stands_at))
+    (stands-kept (made-grown _ c.bdd_node.new.self c.bdd_node-2.new.self c.in_ok-second.second c.in_ok-second.ensures.made) Bdd 0 c.in_ok-first.first.0
+    (stands-weaker Bdd 0 0 c.bdd_node.new.self.nodes c.in_ok-first.first.0 (omega arith) c.in_ok-first.ensures.made.stands_at))
 
 pub or-requires-clause-right : goal.or-requires-clause-right
 or-requires-clause-right g c =
     stands-kept c.in_ok-both.ensures.call.progress.nodes Bdd 0 c.in_ok-second.second.0
-      (stands-weaker Bdd 1 0 c.bdd_node-2.new.self.nodes c.in_ok-second.second.0 (omega arith) c.in_ok-second.ensures.made.stands_at)
+    (stands-weaker Bdd 1 0 c.bdd_node-2.new.self.nodes c.in_ok-second.second.0 (omega arith) c.in_ok-second.ensures.made.stands_at)
 
 pub read-both-requires : goal.read-both-requires
 read-both-requires g c = stands-kept c.in_ok-either.ensures.call.progress.nodes Bdd 0 c.in_ok-both.both.0 c.in_ok-both.ensures.conjunction.stands_at

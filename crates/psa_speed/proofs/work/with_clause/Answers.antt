@@ -18,7 +18,7 @@ bdd_node-requires-2-clause-lo g c = stands-terminal Bdd (c.args.second + 1) c.bd
 pub or-requires-clause-left : goal.or-requires-clause-left
 or-requires-clause-left g c =
     stands-kept (made-grown _ c.bdd_node.new.self c.bdd_node-2.new.self c.in_ok-right.right c.in_ok-right.ensures.made) Bdd 0 c.in_ok-left.left.0
-      (stands-weaker Bdd c.args.first 0 c.bdd_node.new.self.nodes c.in_ok-left.left.0 (omega arith) c.in_ok-left.ensures.made.stands_at)
+    (stands-weaker Bdd c.args.first 0 c.bdd_node.new.self.nodes c.in_ok-left.left.0 (omega arith) c.in_ok-left.ensures.made.stands_at)
 
 pub or-requires-clause-right : goal.or-requires-clause-right
 or-requires-clause-right g c =
@@ -27,5 +27,5 @@ or-requires-clause-right g c =
 pub and-requires-clause-right : goal.and-requires-clause-right
 and-requires-clause-right g c =
     stands-kept c.in_ok-clause.ensures.call.progress.nodes Bdd 0 c.args.all.0
-      (stands-kept (made-grown _ c.bdd_node.new.self c.bdd_node-2.new.self c.in_ok-right.right c.in_ok-right.ensures.made) Bdd 0 c.args.all.0
-        (stands-kept (made-grown _ c.args.table.now c.bdd_node.new.self c.in_ok-left.left c.in_ok-left.ensures.made) Bdd 0 c.args.all.0 c.requires))
+    (stands-kept (made-grown _ c.bdd_node.new.self c.bdd_node-2.new.self c.in_ok-right.right c.in_ok-right.ensures.made) Bdd 0 c.args.all.0
+    (stands-kept (made-grown _ c.args.table.now c.bdd_node.new.self c.in_ok-left.left c.in_ok-left.ensures.made) Bdd 0 c.args.all.0 c.requires))

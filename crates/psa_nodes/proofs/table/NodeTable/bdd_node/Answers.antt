@@ -6,4 +6,4 @@ use Rattle.psa_nodes.proofs.table.NodeTable.bdd_node.Goals as goal
 pub returns-then-eq-clause-made : goal.returns-then-eq-clause-made
 returns-then-eq-clause-made c =
     made_passed c.args.self.now c.check.ensures (record { kind = Bdd; var = c.args.var; hi = c.args.hi; lo = c.args.lo }) c.requires.lo
-        (eqb-true c.args.hi.0 c.args.lo.0 (sym c.if-eq.ensures))
+    (eqb-true c.args.hi.0 c.args.lo.0 (sym c.if-eq.ensures))

@@ -11,10 +11,10 @@ invariant_of-self c =
     let n = c.args.node in
     let v = sym c.self.view_is in
     added_table (reverse i.nodes.keys) (reverse c.add.new.nodes.keys) i.memo.entries i.limit i.refused n c.self.invariant
-      (subst (λ (t : Table). t.limit ≡ Some (length t.nodes) → ⊥) v (λ e. true≢false (sym (c.if-not-is_full.ensures.1 e))))
-      (subst (λ (t : Table). stands n.kind (n.var + 1) t.nodes n.hi.0 ≡ true) v c.requires.hi)
-      (subst (λ (t : Table). stands n.kind (n.var + 1) t.nodes n.lo.0 ≡ true) v c.requires.lo)
-      c.requires.reduced c.add.result c.add.ensures.added c.add.ensures.err
+    (subst (λ (t : Table). t.limit ≡ Some (length t.nodes) → ⊥) v (λ e. true≢false (sym (c.if-not-is_full.ensures.1 e))))
+    (subst (λ (t : Table). stands n.kind (n.var + 1) t.nodes n.hi.0 ≡ true) v c.requires.hi)
+    (subst (λ (t : Table). stands n.kind (n.var + 1) t.nodes n.lo.0 ≡ true) v c.requires.lo)
+    c.requires.reduced c.add.result c.add.ensures.added c.add.ensures.err
 
 pub returns-then-not-is_full-clause-made : goal.returns-then-not-is_full-clause-made
 returns-then-not-is_full-clause-made c =
@@ -22,11 +22,11 @@ returns-then-not-is_full-clause-made c =
     let n = c.args.node in
     let v = sym c.self.view_is in
     subst (λ (t : Table). MakesNode n t (table_of (reverse c.add.new.nodes.keys) i.memo.entries i.limit i.refused) c.add.result) c.self.view_is
-      (added_makes (reverse i.nodes.keys) (reverse c.add.new.nodes.keys) i.memo.entries i.limit i.refused n c.self.invariant
-        (subst (λ (t : Table). t.limit ≡ Some (length t.nodes) → ⊥) v (λ e. true≢false (sym (c.if-not-is_full.ensures.1 e))))
-        (subst (λ (t : Table). stands n.kind (n.var + 1) t.nodes n.hi.0 ≡ true) v c.requires.hi)
-        (subst (λ (t : Table). stands n.kind (n.var + 1) t.nodes n.lo.0 ≡ true) v c.requires.lo)
-        c.requires.reduced c.add.result c.add.ensures.at c.add.ensures.added c.add.ensures.err c.add.ensures.memory)
+    (added_makes (reverse i.nodes.keys) (reverse c.add.new.nodes.keys) i.memo.entries i.limit i.refused n c.self.invariant
+    (subst (λ (t : Table). t.limit ≡ Some (length t.nodes) → ⊥) v (λ e. true≢false (sym (c.if-not-is_full.ensures.1 e))))
+    (subst (λ (t : Table). stands n.kind (n.var + 1) t.nodes n.hi.0 ≡ true) v c.requires.hi)
+    (subst (λ (t : Table). stands n.kind (n.var + 1) t.nodes n.lo.0 ≡ true) v c.requires.lo)
+    c.requires.reduced c.add.result c.add.ensures.at c.add.ensures.added c.add.ensures.err c.add.ensures.memory)
 
 pub returns-then-not-is_full-clause-table : goal.returns-then-not-is_full-clause-table
 returns-then-not-is_full-clause-table c = invariant_of-self c
@@ -37,5 +37,5 @@ returns-in-Some-clause-made c =
     let id = c.in-Some.id in
     let there : node_at c.args.self.now.nodes id.0 ≡ Some n = subst (λ (t : Table). node_at t.nodes id.0 ≡ Some n) c.self.view_is c.in-Some.ensures.found in
     made_ok c.args.self.now n c.requires.hi c.requires.lo c.requires.reduced c.args.self.now id
-      (subst IsTable c.self.view_is c.self.invariant) there (inl refl)
-      (λ r. new-at c.args.self.now.nodes n r.fits.fresh id.0 n there refl)
+    (subst IsTable c.self.view_is c.self.invariant) there (inl refl)
+    (λ r. new-at c.args.self.now.nodes n r.fits.fresh id.0 n there refl)
