@@ -1,0 +1,6 @@
+pub mod Steps
+pub mod Tree
+pub mod Nesting
+pub mod Bytes
+pub mod Reading
+pub mod FirstText

@@ -1,10 +1,19 @@
 // Texts, lists, and the element tree of a model file.
 #![tactic(auto)]
 
+mod builder;
+mod bytes;
+mod document;
+mod reader;
 mod text;
+mod token;
 mod tree;
 
+pub use document::first_document;
 pub use sqlite_items::Items;
 pub use std::alloc::AllocError as OutOfMemory;
 pub use text::Text;
 pub use tree::{Attribute, Document, Element};
+
+#[cfg(test)]
+mod tests;

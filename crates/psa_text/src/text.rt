@@ -1,4 +1,4 @@
-ghost use Rattle.std.specs.Prelude.{◌≡◌, IfOk, length};
+ghost use Rattle.std.specs.Prelude.{◌≡◌, ◌<◌, All, IfOk, length};
 
 use crate::OutOfMemory;
 use std::alloc::Global;
@@ -25,6 +25,18 @@ impl Text {
         ensures { IfOk result (λ made. made ≡ text.now) }
     {
         let text = String::from_str(alloc, text)?;
+        Ok(Text { text })
+    }
+
+    /// A text with these bytes, each of them ASCII.
+    pub fn from_ascii(alloc: Global, bytes: &[u8]) -> Result<Text, OutOfMemory>
+        requires { All (λ b. b < 128) bytes.now }
+        ensures { IfOk result (λ made. made ≡ bytes.now) }
+    {
+        let mut text = String::new(alloc);
+        for byte in bytes {
+            text.push(char::from(*byte))?;
+        }
         Ok(Text { text })
     }
 

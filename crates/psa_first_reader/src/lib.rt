@@ -1,0 +1,2 @@
+//! The reading of a first model: from the tree of its text to a model whose names stand.
+#![tactic(auto)]

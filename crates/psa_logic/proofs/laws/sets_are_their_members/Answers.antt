@@ -1,0 +1,8 @@
+use Rattle.psa_logic.proofs.Parts.{occurs-has, has-occurs, sets-same}
+use Rattle.psa_logic.proofs.laws.sets_are_their_members.Goals as goal
+
+pub returns-clause-members : goal.returns-clause-members
+returns-clause-members c = λ set x. (occurs-has set x, has-occurs set x)
+
+pub returns-clause-same : goal.returns-clause-same
+returns-clause-same c = sets-same

@@ -1,0 +1,39 @@
+//! The data of a safety model, and what they mean: the truth of formulas, targets, ranks, products and
+//! the text of a report, as definitions in specs/.
+#![tactic(auto)]
+
+mod draft;
+mod expanded;
+mod expression;
+mod fault;
+mod formula;
+mod ids;
+mod laws;
+mod model;
+mod product;
+mod settings;
+mod targets;
+mod walks;
+
+pub use draft::{
+    DefinitionKind, Draft, DraftBody, DraftBranch, DraftBranchEnd, DraftDefinition,
+    DraftExpression, DraftFactor, DraftForkPath, DraftFormula, DraftGroup, DraftInstruction,
+    DraftReference, EventKind,
+};
+pub use expanded::{Expanded, ExpandedEvent};
+pub use expression::{Expression, ExpressionOperator};
+pub use fault::{FaultKind, ModelFault};
+pub use formula::{Connective, Formula};
+pub use ids::{
+    BranchId, EventId, EventNumber, FaultTreeId, FormulaId, FunctionalId, GateId, GroupId, HouseId,
+    InitiatingId, ParameterId, Place, RuleId, SequenceId, TreeId,
+};
+pub use laws::{gate_is_its_formula, more_levels_change_nothing};
+pub use model::{
+    BasicEvent, EventTree, Factor, FaultTree, Functional, Gate, Group, GroupModel, House,
+    Initiating, MAX_DEPTH, Model, NamedBranch, Parameter, RuleDefinition, Sequence, Valued,
+};
+pub use product::{Literal, MAX_ORDER, Product};
+pub use settings::{Algorithm, Input, Mode, Settings};
+pub use targets::{Path, PathStep, Ranks, Target, Targets, Values};
+pub use walks::{Branch, BranchEnd, ForkPath, Instruction};

@@ -1,0 +1,6 @@
+pub mod Counts
+pub mod Folder
+pub mod Sink
+pub mod MemoryFolder
+pub mod MemorySink
+pub mod Real

@@ -1,0 +1,4 @@
+pub mod Combinations
+pub mod Kept
+pub mod CutSets
+pub mod Steps

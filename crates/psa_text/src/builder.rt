@@ -1,0 +1,132 @@
+ghost use Rattle.std.specs.Prelude.{◌≡◌, [], Some};
+ghost use Rattle.psa_text.specs.Steps.{Gives};
+ghost use Rattle.psa_text.specs.Tree.{element_of};
+ghost use Rattle.psa_text.specs.Nesting.{at_start, closed, finished, is_too_deep, nested, placed, state_of, stepped};
+
+use crate::token::{StepError, Tag, Token};
+use crate::{Element, Items, Text};
+use std::alloc::Global;
+
+/// The deepest that an element may stand; the root stands at 1.
+const MAX_DEPTH: usize = 64;
+
+/// The tree of a text while its items come: the elements that have begun and not ended, outermost
+/// first, and the root once it has ended.
+#[derive(Drop)]
+pub struct Builder {
+    open_elements: Items<Element>,
+    root: Option<Element>,
+}
+
+impl Builder {
+    /// The builder of a text of which no item has come.
+    pub fn new(alloc: Global) -> Builder
+        ensures { state_of result ≡ at_start }
+    {
+        Builder {
+            open_elements: Items::new(alloc),
+            root: None,
+        }
+    }
+
+    /// Takes the next item, which begins at `line`. Refused: where it does not fit, or where an
+    /// element would begin at depth 65.
+    pub fn step(&mut self, alloc: Global, token: Token, line: u32) -> Result<(), StepError>
+        ensures { Gives (λ _. state_of self.new) result (stepped token line (state_of self.old)) }
+    {
+        if self.is_too_deep(&token) {
+            return Err(StepError::Refused);
+        }
+        self.nest(alloc, token, line)
+    }
+
+    /// Whether the item would begin an element at depth 65.
+    pub fn is_too_deep(&self, token: &Token) -> bool
+        ensures { result ≡ is_too_deep token.now (state_of self.now) }
+    {
+        match token {
+            Token::Start(_) | Token::Empty(_) => self.open_elements.len() >= MAX_DEPTH,
+            Token::End(_) | Token::Passed => false,
+        }
+    }
+
+    /// Takes the next item, at any depth. Refused: where it does not fit.
+    pub fn nest(&mut self, alloc: Global, token: Token, line: u32) -> Result<(), StepError>
+        ensures { Gives (λ _. state_of self.new) result (nested token line (state_of self.old)) }
+    {
+        match token {
+            Token::Start(tag) => self.open(alloc, tag, line),
+            Token::Empty(tag) => self.open_and_close(alloc, tag, line),
+            Token::End(name) => self.close(name),
+            Token::Passed => Ok(()),
+        }
+    }
+
+    /// The root, where it has ended and no element is open.
+    pub fn finish(self) -> Option<Element>
+        ensures { result ≡ finished (state_of self) }
+    {
+        if self.open_elements.is_empty() {
+            self.root
+        } else {
+            None
+        }
+    }
+
+    fn open(&mut self, alloc: Global, tag: Tag, line: u32) -> Result<(), StepError>
+        ensures { Gives (λ _. state_of self.new) result (nested (Token.Start tag) line (state_of self.old)) }
+    {
+        if self.root.is_some() {
+            return Err(StepError::Refused);
+        }
+        self.open_elements.push(new_element(alloc, tag, line))?;
+        Ok(())
+    }
+
+    fn open_and_close(&mut self, alloc: Global, tag: Tag, line: u32) -> Result<(), StepError>
+        ensures { Gives (λ _. state_of self.new) result (nested (Token.Empty tag) line (state_of self.old)) }
+    {
+        if self.root.is_some() {
+            return Err(StepError::Refused);
+        }
+        self.place(new_element(alloc, tag, line))
+    }
+
+    fn close(&mut self, name: Text) -> Result<(), StepError>
+        ensures { Gives (λ _. state_of self.new) result (closed name (state_of self.old)) }
+    {
+        let Some(element) = self.open_elements.pop() else {
+            return Err(StepError::Refused);
+        };
+        if element.tag.as_str() != name.as_str() {
+            return Err(StepError::Refused);
+        }
+        self.place(element)
+    }
+
+    /// Puts a whole element where it belongs: last in the innermost open element, or as the root.
+    fn place(&mut self, element: Element) -> Result<(), StepError>
+        ensures { Gives (λ _. state_of self.new) result (Some (placed element (state_of self.old))) }
+    {
+        match self.open_elements.pop() {
+            None => self.root = Some(element),
+            Some(mut parent) => {
+                parent.children.push(element)?;
+                self.open_elements.push(parent)?;
+            }
+        }
+        Ok(())
+    }
+}
+
+/// The element that a tag begins, with nothing in it.
+fn new_element(alloc: Global, tag: Tag, line: u32) -> Element
+    ensures { result ≡ element_of tag line [] }
+{
+    Element {
+        tag: tag.name,
+        line,
+        attributes: tag.attributes,
+        children: Items::new(alloc),
+    }
+}
