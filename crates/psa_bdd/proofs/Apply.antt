@@ -1,10 +1,10 @@
 -- A connective on truth values, and what its operation computes.
-use Rattle.std.proofs.Common.{◌≡◌, ℕ, ◌<◌, ◌≤◌, Bool, true, false, List, ◌&&◌, ◌||◌, ◌==◌, if◌then◌else◌, refl, sym, ap, ◌∙◌, arith}
+use Rattle.std.proofs.Common.{◌≡◌, ℕ, Bool, true, false, List, ◌&&◌, ◌||◌, if◌then◌else◌, refl, sym, ap, ◌∙◌, arith}
 use Rattle.psa_nodes.specs.declared.node.Kind.TheVariants.{Bdd}
 use Rattle.psa_nodes.specs.declared.node.Node.{Node}
 use Rattle.psa_nodes.specs.Readings.{Reading, reading, truth, stands}
 use Rattle.psa_nodes.specs.Nodes.{AllFit}
-use Rattle.psa_nodes.specs.Operations.{Computes, operand_kind, result_kind, takes_right, takes_limit}
+use Rattle.psa_nodes.specs.Operations.{Computes, operand_kind, result_kind, takes_right}
 use Rattle.psa_nodes.specs.Progress.{IsResult}
 use Rattle.psa_nodes.proofs.CallerLemmas.{only, truth-terminal, stands-terminal}
 use Rattle.psa_bdd.specs.declared.connective.Connective.{Connective}

@@ -1,16 +1,16 @@
 -- A diagram by its sides, and the cofactors of both.
-use Rattle.std.proofs.Common.{◌≡◌, ℕ, ◌+◌, ◌*◌, ◌<◌, ◌≤◌, Bool, true, false, List, ◌==◌, Some, if◌then◌else◌, refl, sym, ap, ap₂, subst, ◌∙◌, inl, inr, arith}
+use Rattle.std.proofs.Common.{◌≡◌, ℕ, ◌+◌, ◌*◌, ◌<◌, ◌≤◌, Bool, true, false, List, Some, if◌then◌else◌, refl, sym, ap, ap₂, subst, ◌∙◌, inl, inr, arith}
 use Rattle.std.proofs.lemmas.Bool.{cases_Bool}
 use Rattle.psa_nodes.specs.declared.node.Kind.{Kind}
 use Rattle.psa_nodes.specs.declared.node.Kind.TheVariants.{Bdd}
 use Rattle.psa_nodes.specs.declared.node.Node.{Node}
-use Rattle.psa_nodes.specs.Readings.{Reading, reading, node_at, truth, stands, first_literal, node_reading}
+use Rattle.psa_nodes.specs.Readings.{Reading, node_at, truth, stands, first_literal}
 use Rattle.psa_nodes.specs.Nodes.{AllFit, Grown, IsReduced}
 use Rattle.psa_nodes.specs.Progress.{IsResult}
-use Rattle.psa_nodes.specs.Cofactors.{cofactor, assigned}
-use Rattle.psa_nodes.proofs.CallerLemmas.{At, at, stands-node, stands-weaker, stands-below, stands-kept, truth-kept, fixed, IsBlind, blind-stands, fixed-past, high-side, low-side, stands-split, canonical, high-cofactor, low-cofactor, truth-agree, assigned-past, level-node, stands-at, choice-same}
+use Rattle.psa_nodes.specs.Cofactors.{assigned}
+use Rattle.psa_nodes.proofs.CallerLemmas.{at, stands-node, stands-weaker, stands-below, stands-kept, truth-kept, fixed, IsBlind, blind-stands, fixed-past, high-side, low-side, stands-split, canonical, high-cofactor, low-cofactor, truth-agree, assigned-past, choice-same}
 use Rattle.psa_bdd.specs.declared.connective.Connective.{Connective}
-use Rattle.psa_bdd.specs.Combined.{apply, operation_of, IsCofactors, IsSplit, IsReady, pair_level}
+use Rattle.psa_bdd.specs.Combined.{apply, operation_of, IsCofactors, IsSplit, IsReady}
 use Rattle.psa_bdd.proofs.Apply.{apply-branch, is_result, result-stands, result-reads}
 
 -- a node is its children by its own variable

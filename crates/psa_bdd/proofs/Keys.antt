@@ -1,11 +1,10 @@
 -- The key of a result, whichever order its operands have.
-use Rattle.std.proofs.Common.{◌≡◌, ℕ, ◌≤◌, min, Bool, true, false, nat_le, List, if◌then◌else◌, refl, sym, ap, ◌∙◌, inl, inr, arith, true≢false}
+use Rattle.std.proofs.Common.{◌≡◌, ℕ, Bool, true, nat_le, List, refl, sym, ◌∙◌, inl, inr, arith, true≢false}
 use Rattle.std.proofs.lemmas.Bool.{cases_Bool}
 use Rattle.psa_nodes.specs.declared.node.Kind.TheVariants.{Bdd}
 use Rattle.psa_nodes.specs.declared.node.Node.{Node}
 use Rattle.psa_nodes.specs.declared.node.NodeId.{NodeId}
-use Rattle.psa_nodes.specs.declared.node.MemoKey.{MemoKey}
-use Rattle.psa_nodes.specs.Readings.{Reading, reading, truth, stands}
+use Rattle.psa_nodes.specs.Readings.{reading, truth, stands}
 use Rattle.psa_nodes.specs.Nodes.{AllFit}
 use Rattle.psa_nodes.specs.Table.{IsRight}
 use Rattle.psa_nodes.specs.Progress.{IsResult, key_level}

@@ -1,13 +1,13 @@
 -- One step of the recursion: the results on the sides, one after the other, and then the node.
-use Rattle.std.proofs.Common.{◌≡◌, ℕ, ◌+◌, ◌*◌, ◌^◌, ◌<◌, ◌≤◌, min, Bool, true, Result, Ok, Err, refl, sym, ap₂, subst₂, ◌∙◌, arith}
+use Rattle.std.proofs.Common.{◌≡◌, ℕ, ◌+◌, ◌*◌, ◌^◌, ◌<◌, ◌≤◌, min, Bool, true, Result, Ok, sym, ap₂, subst₂, ◌∙◌, arith}
 use Rattle.psa_nodes.specs.declared.node.Kind.{Kind}
 use Rattle.psa_nodes.specs.declared.node.Kind.TheVariants.{Bdd}
 use Rattle.psa_nodes.specs.declared.node.NodeId.{NodeId}
 use Rattle.psa_nodes.specs.declared.node.NodeError.{NodeError}
-use Rattle.psa_nodes.specs.Readings.{Reading, truth, stands, level, first_literal}
+use Rattle.psa_nodes.specs.Readings.{Reading, truth, stands}
 use Rattle.psa_nodes.specs.Nodes.{AllFit, Grown}
 use Rattle.psa_nodes.specs.Table.{Table, Lacks}
-use Rattle.psa_nodes.specs.Progress.{Progress, IsCall, IsResult, key_level}
+use Rattle.psa_nodes.specs.Progress.{IsCall, IsResult, key_level}
 use Rattle.psa_nodes.proofs.CallerLemmas.{stands-below, stands-kept, stands-weaker, truth-kept, level-kept, call-then, call-wide, progress-lacks}
 use Rattle.psa_bdd.specs.declared.connective.Connective.{Connective}
 use Rattle.psa_bdd.specs.Combined.{operation_of, key_of, pair_level, IsCofactors, IsSplit, IsReady}

@@ -1,13 +1,17 @@
 -- Conjunction and disjunction of decision diagrams (Bryant).
-use Rattle.std.specs.Prelude.{◌≡◌, ◌+◌, ◌-◌, ◌*◌, ◌≤◌, ℕ, min, Bool, true, List, ◌&&◌, ◌||◌, nat_le, if◌then◌else◌}
+use Rattle.std.specs.Prelude.{◌≡◌, ◌+◌, ℕ, min, Bool, true, List, ◌&&◌, ◌||◌, nat_le, Result, if◌then◌else◌}
 use Rattle.psa_nodes.specs.declared.node.Kind.{Kind}
 use Rattle.psa_nodes.specs.declared.node.Kind.TheVariants.{Bdd}
 use Rattle.psa_nodes.specs.declared.node.Node.{Node}
 use Rattle.psa_nodes.specs.declared.node.NodeId.{NodeId}
 use Rattle.psa_nodes.specs.declared.node.MemoKey.{MemoKey}
+use Rattle.psa_nodes.specs.declared.node.NodeError.{NodeError}
 use Rattle.psa_nodes.specs.declared.node.Operation.{Operation}
 use Rattle.psa_nodes.specs.declared.node.Operation.TheVariants as operations
 use Rattle.psa_nodes.specs.Readings.{Reading, truth, stands, level}
+use Rattle.psa_nodes.specs.Nodes.{AllFit}
+use Rattle.psa_nodes.specs.Table.{Table}
+use Rattle.psa_nodes.specs.Progress.{IsCall, IsResult}
 use Rattle.psa_nodes.specs.Cofactors.{cofactor}
 use Rattle.psa_bdd.specs.declared.connective.Connective.{Connective}
 use Rattle.psa_bdd.specs.declared.connective.Connective.TheVariants.{And, Or}
@@ -46,6 +50,19 @@ pub record IsCofactors (connective : Connective) (f g : (ℕ → Bool) → Bool)
   pub of_bdd : kind ≡ Bdd
   pub assignment : ℕ → Bool
   pub reads : (s : ℕ → Bool) → r.as_truth s ≡ apply connective (cofactor f assignment var s) (cofactor g assignment var s)
+
+-- What combining two diagrams does to the table, with its answer: each new node reads as the connective of
+-- cofactors of both operands, and so does the triple that a full table refused.
+abbrev pub IsCombining : Connective → NodeId → NodeId → Table → Table → Result NodeId NodeError → Type 0
+IsCombining connective left right before now answer =
+    IsCall (IsCofactors connective (truth before.nodes left.0) (truth before.nodes right.0))
+    (pair_level before.nodes left.0 right.0) before now answer
+
+-- the id is the result in every table in which both operands stand
+abbrev pub IsTrivial : Connective → ℕ → ℕ → ℕ → Type 0
+IsTrivial connective left right id =
+    (ns : List Node) → AllFit ns → stands Bdd 0 ns left ≡ true → stands Bdd 0 ns right ≡ true
+    → IsResult (operation_of connective) 0 ns left right id
 
 -- a diagram is its sides by a variable, which stand past it
 pub record IsSplit (ns : List Node) (var id hi lo : ℕ) : Type 0 where

@@ -4,7 +4,7 @@ ghost use Rattle.psa_nodes.specs.declared.node.Operation.{Operation};
 ghost use Rattle.psa_nodes.specs.Readings.{stands, truth};
 ghost use Rattle.psa_nodes.specs.Table.{IsTable, Lacks};
 ghost use Rattle.psa_nodes.specs.Progress.{IsCall, IsResult};
-ghost use Rattle.psa_bdd.specs.Combined.{operation_of, key_of, pair_level, IsCofactors, IsReady};
+ghost use Rattle.psa_bdd.specs.Combined.{operation_of, key_of, IsCofactors, IsCombining, IsReady};
 
 use crate::connective::Connective;
 use crate::sides::split;
@@ -25,7 +25,8 @@ fn finish(
     requires ready { IsReady connective table.old.nodes left.0 right.0 var hi.0 lo.0 }
     requires absent { Lacks table.old.entries (key_of connective left right) }
     ensures combined { IfOk result (λ id. IsResult (operation_of connective) 0 table.new.nodes left.0 right.0 id.0) }
-    ensures call { IsCall (IsCofactors connective (truth table.old.nodes left.0) (truth table.old.nodes right.0)) (2 * var) table.old table.new result }
+    ensures call { IsCall (IsCofactors connective (truth table.old.nodes left.0) (truth table.old.nodes right.0))
+        (2 * var) table.old table.new result }
     ensures entered { OnOk result (length table.new.entries ≡ length table.old.entries + 1) }
 {
     let id = table.bdd_node(var, hi, lo)?;
@@ -46,7 +47,7 @@ fn combine<L: Ledger>(
     requires left { stands Bdd 0 table.old.nodes left.0 ≡ true }
     requires right { stands Bdd 0 table.old.nodes right.0 ≡ true }
     ensures combined { IfOk result (λ id. IsResult (operation_of connective) 0 table.new.nodes left.0 right.0 id.0) }
-    ensures call { IsCall (IsCofactors connective (truth table.old.nodes left.0) (truth table.old.nodes right.0)) (pair_level table.old.nodes left.0 right.0) table.old table.new result }
+    ensures call { IsCombining connective left right table.old table.new result }
     ensures turns { OnOk result (steps.new + 2 * length table.old.entries ≡ steps.old + 2 * length table.new.entries) }
 {
     table.check();
@@ -74,7 +75,7 @@ pub fn and<L: Ledger>(
     requires left { stands Bdd 0 table.old.nodes left.0 ≡ true }
     requires right { stands Bdd 0 table.old.nodes right.0 ≡ true }
     ensures conjunction { IfOk result (λ id. IsResult Operation.And 0 table.new.nodes left.0 right.0 id.0) }
-    ensures call { IsCall (IsCofactors Connective.And (truth table.old.nodes left.0) (truth table.old.nodes right.0)) (pair_level table.old.nodes left.0 right.0) table.old table.new result }
+    ensures call { IsCombining Connective.And left right table.old table.new result }
     ensures two_turns { OnOk result (steps.new + 2 * length table.old.entries ≡ steps.old + 2 * length table.new.entries) }
     ensures turns { OnOk result (steps.new ≤ steps.old + 8 * (length table.new.entries - length table.old.entries + 1)) }
 {
@@ -93,7 +94,7 @@ pub fn or<L: Ledger>(
     requires left { stands Bdd 0 table.old.nodes left.0 ≡ true }
     requires right { stands Bdd 0 table.old.nodes right.0 ≡ true }
     ensures disjunction { IfOk result (λ id. IsResult Operation.Or 0 table.new.nodes left.0 right.0 id.0) }
-    ensures call { IsCall (IsCofactors Connective.Or (truth table.old.nodes left.0) (truth table.old.nodes right.0)) (pair_level table.old.nodes left.0 right.0) table.old table.new result }
+    ensures call { IsCombining Connective.Or left right table.old table.new result }
     ensures two_turns { OnOk result (steps.new + 2 * length table.old.entries ≡ steps.old + 2 * length table.new.entries) }
     ensures turns { OnOk result (steps.new ≤ steps.old + 8 * (length table.new.entries - length table.old.entries + 1)) }
 {

@@ -1,11 +1,5 @@
-ghost use Rattle.std.specs.Prelude.{◌≡◌, ◌≤◌, true, List, IfSome, IfNone};
-ghost use Rattle.psa_nodes.specs.declared.node.Kind.{Kind};
-ghost use Rattle.psa_nodes.specs.declared.node.Kind.TheVariants.{Bdd};
-ghost use Rattle.psa_nodes.specs.declared.node.Node.{Node};
-ghost use Rattle.psa_nodes.specs.Readings.{stands};
-ghost use Rattle.psa_nodes.specs.Nodes.{AllFit};
-ghost use Rattle.psa_nodes.specs.Progress.{IsResult};
-ghost use Rattle.psa_bdd.specs.Combined.{operation_of, dominant_of, neutral_of, key_of};
+ghost use Rattle.std.specs.Prelude.{◌≡◌, ◌≤◌, IfSome, IfNone};
+ghost use Rattle.psa_bdd.specs.Combined.{operation_of, dominant_of, neutral_of, key_of, IsTrivial};
 
 use psa_nodes::{MemoKey, NodeId, Operation};
 
@@ -71,7 +65,7 @@ impl Connective {
 
     /// The result where an operand is a terminal or both are one node, whatever the table.
     pub fn trivial(self, left: NodeId, right: NodeId) -> Option<NodeId>
-        ensures found { IfSome result (λ id. (ns : List Node) → AllFit ns → stands Bdd 0 ns left.0 ≡ true → stands Bdd 0 ns right.0 ≡ true → IsResult (operation_of self) 0 ns left.0 right.0 id.0) }
+        ensures found { IfSome result (λ id. IsTrivial self left.0 right.0 id.0) }
         ensures inner { IfNone result ((2 ≤ left.0) × (2 ≤ right.0)) }
     {
         let dominant = self.dominant();

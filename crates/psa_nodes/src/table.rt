@@ -46,7 +46,8 @@ fn place(nodes: &IndexSet<Node>, node: Node) -> Option<NodeId>
 /// Adds the node where it is not in the set, by one look-up.
 fn add(nodes: &mut IndexSet<Node>, node: Node) -> Result<NodeId, NodeError>
     ensures at { IfOk result (λ id. node_at (reverse nodes.new.keys) id.0 ≡ Some node) }
-    ensures added { IfOk result (λ _. (reverse nodes.new.keys ≡ reverse nodes.old.keys) ⊎ ((reverse nodes.new.keys ≡ node ∷ reverse nodes.old.keys) × IsNew (reverse nodes.old.keys) node)) }
+    ensures added { IfOk result (λ _. (reverse nodes.new.keys ≡ reverse nodes.old.keys)
+        ⊎ ((reverse nodes.new.keys ≡ node ∷ reverse nodes.old.keys) × IsNew (reverse nodes.old.keys) node)) }
     ensures err { OnErr result ((reverse nodes.new.keys ≡ reverse nodes.old.keys) × IsNew (reverse nodes.old.keys) node) }
     ensures memory { IfErr result (λ e. e ≡ NodeError.Memory) }
 {

@@ -1,7 +1,6 @@
-use Rattle.std.proofs.Common.{◌≡◌, ◌+◌, ◌*◌, ◌^◌, ◌<◌, ◌≤◌, true, Err, arith}
+use Rattle.std.proofs.Common.{◌+◌, Err, arith}
 use Rattle.std.proofs.lemmas.Result.{err_from_is_err_and}
 use Rattle.psa_nodes.specs.declared.node.Kind.TheVariants.{Bdd}
-use Rattle.psa_nodes.specs.Readings.{stands}
 use Rattle.psa_nodes.proofs.CallerLemmas.{stands-weaker}
 use Rattle.psa_bdd.specs.Combined.{pair_level}
 use Rattle.psa_bdd.proofs.Keys.{result-key}

@@ -1,4 +1,4 @@
-use Rattle.std.proofs.Common.{◌≡◌, ◌<◌, ◌+◌, ◌++◌, ◌∷◌, [], ◌*◌, ◌≤◌, ◌^◌, ℕ, true, Bool, Ok, Err, Result, refl, sym, ap, subst, ◌∙◌, arith}
+use Rattle.std.proofs.Common.{◌≡◌, ◌<◌, ◌++◌, ◌∷◌, [], ◌*◌, ◌≤◌, ◌^◌, ℕ, true, Ok, Err, Result, refl, sym, subst, arith}
 use Rattle.psa_nodes.specs.declared.node.Kind.TheVariants.{Bdd}
 use Rattle.psa_nodes.specs.declared.node.Node.{Node}
 use Rattle.psa_nodes.specs.declared.node.NodeId.{NodeId}
@@ -8,10 +8,10 @@ use Rattle.psa_nodes.specs.declared.node.NodeError.TheVariants.{Memory}
 use Rattle.std.proofs.lemmas.Result.{err_from_is_err_and}
 use Rattle.psa_nodes.specs.Readings.{stands, truth, node_reading, level}
 use Rattle.psa_nodes.specs.Table.{Table, IsTable, IsRight, MakesNode}
-use Rattle.psa_nodes.specs.Progress.{IsCall, IsFrom, IsResult, key_level}
+use Rattle.psa_nodes.specs.Progress.{IsCall, IsResult, key_level}
 use Rattle.psa_nodes.proofs.CallerLemmas.{stands-kept, stands-weaker, level-stands, progress-remember, progress-own, call-done, call-memory, call-then, call-node}
 use Rattle.psa_bdd.specs.declared.connective.Connective.{Connective}
-use Rattle.psa_bdd.specs.Combined.{operation_of, key_of, pair_level, IsCofactors, IsReady}
+use Rattle.psa_bdd.specs.Combined.{operation_of, key_of, IsCofactors, IsReady}
 use Rattle.psa_bdd.proofs.Keys.{right-key, key-level}
 use Rattle.psa_bdd.proofs.Branches.{own-origin, made-result}
 use Rattle.psa_bdd.proofs.combine.finish.Goals as goal

@@ -1,7 +1,7 @@
-use Rattle.std.proofs.Common.{◌≡◌, ◌≤◌, ◌*◌, ℕ, min, arith, ap, ◌∙◌}
+use Rattle.std.proofs.Common.{◌≡◌, ◌*◌, ℕ, min, arith, ap, ◌∙◌}
 use Rattle.psa_nodes.specs.declared.node.Kind.{Kind}
 use Rattle.psa_nodes.specs.declared.node.Kind.TheVariants.{Bdd}
-use Rattle.psa_nodes.specs.Readings.{stands, level, first_literal}
+use Rattle.psa_nodes.specs.Readings.{level, first_literal}
 use Rattle.psa_nodes.proofs.CallerLemmas.{some-inner, stands-at, stands-node, stands-weaker, level-node}
 use Rattle.psa_bdd.proofs.sides.split.Goals as goal
 

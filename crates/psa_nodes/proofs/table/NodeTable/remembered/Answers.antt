@@ -1,4 +1,4 @@
-use Rattle.std.proofs.Common.{◌≡◌, sym, ap, subst, ◌∙◌}
+use Rattle.std.proofs.Common.{◌≡◌, sym, ap, ◌∙◌}
 use Rattle.std.specs.Map.{lookup}
 use Rattle.psa_nodes.specs.Table.{Table}
 use Rattle.psa_nodes.proofs.Same.{key_eq}
