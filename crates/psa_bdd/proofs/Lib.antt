@@ -1,0 +1,5 @@
+pub mod Apply
+pub mod Keys
+pub mod Levels
+pub mod Branches
+pub mod Recursion

@@ -1,0 +1,90 @@
+ghost use Rattle.std.specs.Prelude.{◌≡◌, ◌≤◌, IfSome, IfNone};
+ghost use Rattle.psa_bdd.specs.Combined.{operation_of, dominant_of, neutral_of, key_of, IsTrivial};
+
+use psa_nodes::{MemoKey, NodeId, Operation};
+
+/// A connective of two truths.
+#[derive(Clone, Copy)]
+pub enum Connective {
+    And,
+    Or,
+}
+
+impl Connective {
+    /// The operation by which the table remembers its results.
+    fn operation(self) -> Operation
+        ensures { result ≡ operation_of self }
+    {
+        match self {
+            Connective::And => Operation::And,
+            Connective::Or => Operation::Or,
+        }
+    }
+
+    /// The terminal that decides the result alone.
+    fn dominant(self) -> NodeId
+        ensures { result.0 ≡ dominant_of self }
+    {
+        match self {
+            Connective::And => NodeId(0),
+            Connective::Or => NodeId(1),
+        }
+    }
+
+    /// The terminal that leaves the other operand as the result.
+    fn neutral(self) -> NodeId
+        ensures { result.0 ≡ neutral_of self }
+    {
+        match self {
+            Connective::And => NodeId(1),
+            Connective::Or => NodeId(0),
+        }
+    }
+
+    /// What the result is remembered by, the same for both orders of the operands.
+    pub fn key(self, left: NodeId, right: NodeId) -> MemoKey
+        ensures { result ≡ key_of self left right }
+    {
+        let operation = self.operation();
+        if left.0 <= right.0 {
+            MemoKey {
+                operation,
+                left,
+                right,
+                limit: 0,
+            }
+        } else {
+            MemoKey {
+                operation,
+                left: right,
+                right: left,
+                limit: 0,
+            }
+        }
+    }
+
+    /// The result where an operand is a terminal or both are one node, whatever the table.
+    pub fn trivial(self, left: NodeId, right: NodeId) -> Option<NodeId>
+        ensures found { IfSome result (λ id. IsTrivial self left.0 right.0 id.0) }
+        ensures inner { IfNone result ((2 ≤ left.0) × (2 ≤ right.0)) }
+    {
+        let dominant = self.dominant();
+        let neutral = self.neutral();
+        if left == right {
+            return Some(left);
+        }
+        if left == dominant {
+            return Some(dominant);
+        }
+        if right == dominant {
+            return Some(dominant);
+        }
+        if left == neutral {
+            return Some(right);
+        }
+        if right == neutral {
+            return Some(left);
+        }
+        None
+    }
+}

@@ -1,0 +1,13 @@
+pub mod Ids
+pub mod Grows
+pub mod At
+pub mod Truths
+pub mod Sets
+pub mod Canon
+pub mod Same
+pub mod Places
+pub mod Entries
+pub mod Makes
+pub mod Steady
+pub mod Cofactors
+pub mod CallerLemmas

@@ -1,0 +1,7 @@
+pub mod Readings
+pub mod Nodes
+pub mod Families
+pub mod Operations
+pub mod Table
+pub mod Cofactors
+pub mod Progress
