@@ -85,7 +85,7 @@ fn finds_minimal_cut_sets(rt: HostRuntime) -> Result<(), Fail> {
         ("by size", Formula::BySize, 12, by_size),
         ("by size, pairs", Formula::BySize, 2, &by_size[..3]),
     ] {
-        let found = minimal_cut_sets(rt.alloc(), &formula.table(), 4, limit)?;
+        let found = minimal_cut_sets(rt.alloc(), &mut formula.table(), 4, limit)?;
         assert_eq!(rt; found.len(), want.len(), "{name}");
         for (at, set) in want.iter().enumerate() {
             assert_eq!(rt;
