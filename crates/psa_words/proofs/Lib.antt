@@ -1,0 +1,5 @@
+pub mod Looks
+pub mod Firsts
+pub mod Turns
+pub mod Whole
+pub mod Instance
