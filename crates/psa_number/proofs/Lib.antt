@@ -1,0 +1,5 @@
+pub mod Digits
+pub mod Held
+pub mod Printed
+pub mod Signed
+pub mod Sums

@@ -1,3 +1,6 @@
 pub mod Reading
 pub mod Options
+pub mod Given
+pub mod Answer
+pub mod Refused
 pub mod Scram

@@ -1,0 +1,38 @@
+use Rattle.std.proofs.Common.{ℤ, ◌+ℤ◌, ◌≤ℤ◌, pos, ap₂, sym, subst, ◌∙◌}
+use Rattle.std.specs.Int.{int_min}
+use Rattle.psa_number.specs.Units.{units}
+use Rattle.psa_number.specs.Ends.{Ends}
+use Rattle.psa_number.specs.Operations.{IsInUnit}
+use Rattle.psa_number.specs.Fraction.{Fraction, Holds, plus, at_most_one}
+use Rattle.psa_number.proofs.Signed.{read_back, two_read, unit_ends_of, interval_of_unit, sums_in_unit}
+use Rattle.psa_number.proofs.Held.{unit_sum_held}
+use Rattle.psa_number.proofs.unit.add_in_unit.Goals as goal
+
+pub invariant_of-result : goal.invariant_of-result
+invariant_of-result c =
+    let low_a : pos 0 ≤ℤ c.a.inside.lo = rw (← c.a.view_is) at c.requires.left.low in
+    let high_a : c.a.inside.hi ≤ℤ pos units = rw (← c.a.view_is) at c.requires.left.high in
+    let low_b : pos 0 ≤ℤ c.b.inside.lo = rw (← c.b.view_is) at c.requires.right.low in
+    let high_b : c.b.inside.hi ≤ℤ pos units = rw (← c.b.view_is) at c.requires.right.high in
+    let lo = read_back c.sum_at_most_one.result c.sum_at_most_one.type_inv ∙ two_read (λ (x y : ℤ). int_min (pos units) (x +ℤ y)) c.sum_at_most_one.result c.a.inside.lo c.b.inside.lo c.sum_at_most_one.ensures c.a.invariant.lo_limited c.b.invariant.lo_limited in
+    let hi = read_back c.sum_at_most_one-2.result c.sum_at_most_one-2.type_inv ∙ two_read (λ (x y : ℤ). int_min (pos units) (x +ℤ y)) c.sum_at_most_one-2.result c.a.inside.hi c.b.inside.hi c.sum_at_most_one-2.ensures c.a.invariant.hi_limited c.b.invariant.hi_limited in
+    rw (lo, hi) (interval_of_unit (int_min (pos units) (c.a.inside.lo +ℤ c.b.inside.lo)) (int_min (pos units) (c.a.inside.hi +ℤ c.b.inside.hi))
+    (sums_in_unit c.a.inside.lo c.a.inside.hi c.b.inside.lo c.b.inside.hi (record { low = low_a; ordered = c.a.invariant.ordered; high = high_a }) (record { low = low_b; ordered = c.b.invariant.ordered; high = high_b })))
+
+pub returns-clause-exact : goal.returns-clause-exact
+returns-clause-exact c =
+    let lo = read_back c.sum_at_most_one.result c.sum_at_most_one.type_inv ∙ two_read (λ (x y : ℤ). int_min (pos units) (x +ℤ y)) c.sum_at_most_one.result c.a.inside.lo c.b.inside.lo c.sum_at_most_one.ensures c.a.invariant.lo_limited c.b.invariant.lo_limited in
+    let hi = read_back c.sum_at_most_one-2.result c.sum_at_most_one-2.type_inv ∙ two_read (λ (x y : ℤ). int_min (pos units) (x +ℤ y)) c.sum_at_most_one-2.result c.a.inside.hi c.b.inside.hi c.sum_at_most_one-2.ensures c.a.invariant.hi_limited c.b.invariant.hi_limited in
+    let ends : ℤ → ℤ → Ends = λ l h. record { lo = l; hi = h } in
+    rw (← c.a.view_is, ← c.b.view_is) (ap₂ ends lo hi)
+
+pub returns-clause-in_unit : goal.returns-clause-in_unit
+returns-clause-in_unit c =
+    let ordered_a : c.args.a.lo ≤ℤ c.args.a.hi = rw (← c.a.view_is) c.a.invariant.ordered in
+    let ordered_b : c.args.b.lo ≤ℤ c.args.b.hi = rw (← c.b.view_is) c.b.invariant.ordered in
+    let inside = sums_in_unit c.args.a.lo c.args.a.hi c.args.b.lo c.args.b.hi (unit_ends_of c.args.a c.requires.left ordered_a) (unit_ends_of c.args.b c.requires.right ordered_b) in
+    subst (λ (e : Ends). IsInUnit e) (sym (returns-clause-exact c)) (record { low = inside.low; high = inside.high })
+
+pub returns-clause-bracket : goal.returns-clause-bracket
+returns-clause-bracket c =
+    λ (x y : Fraction) (h : Holds c.args.a x) (g : Holds c.args.b y). subst (λ (e : Ends). Holds e (at_most_one (plus x y))) (sym (returns-clause-exact c)) (unit_sum_held c.args.a c.args.b x y h g)

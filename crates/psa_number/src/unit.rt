@@ -1,0 +1,79 @@
+ghost use Rattle.std.specs.Prelude.{◌≡◌, pos, unsigned_abs, ◌≤◌, ◌^◌, ◌≤ℤ◌, ◌+ℤ◌};
+ghost use Rattle.std.specs.Int.{int_min};
+ghost use Rattle.psa_number.specs.Units.{units};
+ghost use Rattle.psa_number.specs.Operations.{IsInUnit, held_to_unit, unit_ends, unit_product_ends, unit_sum_ends, complement_ends};
+ghost use Rattle.psa_number.specs.Fraction.{Fraction, Holds, plus, times, held_in_unit, at_most_one, one_minus};
+
+use crate::arithmetic::{ceil_of, floor_of, product};
+use crate::interval::{Interval, UNITS};
+
+/// The interval with both ends held to 0 and 1. Some of it has to be within them.
+pub fn clamp_unit(a: Interval) -> Interval
+    requires low { a.lo ≤ℤ pos units }
+    requires high { pos 0 ≤ℤ a.hi }
+    ensures exact { result ≡ unit_ends a }
+    ensures in_unit { IsInUnit result }
+    ensures bracket { (x : Fraction) → Holds a x → Holds result (held_in_unit x) }
+{
+    Interval {
+        lo: held(a.lo),
+        hi: held(a.hi),
+    }
+}
+
+/// The interval of the products of two intervals within 0 and 1, rounded outwards to whole units.
+pub fn times_in_unit(a: Interval, b: Interval) -> Interval
+    requires left { IsInUnit a }
+    requires right { IsInUnit b }
+    ensures exact { result ≡ unit_product_ends a b }
+    ensures in_unit { IsInUnit result }
+    ensures bracket { (x y : Fraction) → Holds a x → Holds b y → Holds result (times x y) }
+{
+    Interval {
+        lo: floor_of(product(a.lo, b.lo)),
+        hi: ceil_of(product(a.hi, b.hi)),
+    }
+}
+
+/// The interval of the sums of two intervals within 0 and 1, each sum held at 1.
+pub fn add_in_unit(a: Interval, b: Interval) -> Interval
+    requires left { IsInUnit a }
+    requires right { IsInUnit b }
+    ensures exact { result ≡ unit_sum_ends a b }
+    ensures in_unit { IsInUnit result }
+    ensures bracket { (x y : Fraction) → Holds a x → Holds b y → Holds result (at_most_one (plus x y)) }
+{
+    Interval {
+        lo: sum_at_most_one(a.lo, b.lo),
+        hi: sum_at_most_one(a.hi, b.hi),
+    }
+}
+
+/// The interval of 1 less the numbers of an interval within 0 and 1.
+pub fn complement(a: Interval) -> Interval
+    requires { IsInUnit a }
+    ensures exact { result ≡ complement_ends a }
+    ensures in_unit { IsInUnit result }
+    ensures bracket { (x : Fraction) → Holds a x → Holds result (one_minus x) }
+{
+    Interval {
+        lo: i128::from(UNITS) - a.hi,
+        hi: i128::from(UNITS) - a.lo,
+    }
+}
+
+/// A number of units held to 0 and 1.
+fn held(z: i128) -> i128
+    ensures { result ≡ held_to_unit z }
+{
+    z.min(i128::from(UNITS)).max(0)
+}
+
+/// The sum of two ends, held at 1.
+fn sum_at_most_one(x: i128, y: i128) -> i128
+    requires left { unsigned_abs x ≤ 10 ^ 18 }
+    requires right { unsigned_abs y ≤ 10 ^ 18 }
+    ensures { result ≡ int_min (pos units) (x +ℤ y) }
+{
+    i128::from(UNITS).min(x + y)
+}
