@@ -34,19 +34,22 @@ top_again : top.args_override_self ≡ false
 unfolding top scram
 top_again = refl
 
-pub simple : is_simple scram ≡ true
-unfolding scram
-simple = refl
-
-pub simple_free : is_simple_and_free scram ≡ true
-unfolding scram
-simple_free = refl
-
 -- names
 
 long_of_option : (setting : Setting) (name : Text) → (not (is_some (built_option setting).index) && has_long (built_option setting) name) ≡ bytes_eq (name_of setting) name
 unfolding built_option
-long_of_option setting name = or_false (bytes_eq (name_of setting) name)
+long_of_option bdd name = or_false (bytes_eq (name_of bdd) name)
+long_of_option zbdd name = or_false (bytes_eq (name_of zbdd) name)
+long_of_option prime_implicants name = or_false (bytes_eq (name_of prime_implicants) name)
+long_of_option rare_event name = or_false (bytes_eq (name_of rare_event) name)
+long_of_option mcub name = or_false (bytes_eq (name_of mcub) name)
+long_of_option ccf name = or_false (bytes_eq (name_of ccf) name)
+long_of_option validate name = or_false (bytes_eq (name_of validate) name)
+long_of_option limit_order name = or_false (bytes_eq (name_of limit_order) name)
+long_of_option cut_off name = or_false (bytes_eq (name_of cut_off) name)
+long_of_option mission_time name = or_false (bytes_eq (name_of mission_time) name)
+long_of_option node_limit name = or_false (bytes_eq (name_of node_limit) name)
+long_of_option sample name = or_false (bytes_eq (name_of sample) name)
 
 choice : {A B : Type 0} (b : Bool) (g : A → B) (x : A) (r : Option A) → cond b (Some (g x)) (option_map g r) ≡ option_map g (cond b (Some x) r)
 choice true g x r = refl
@@ -242,7 +245,7 @@ fault_is_level words = leaf_fault (built scram) nothing_held words refl
 scram_faults : (words : List Text) → fault_of scram words ≡ faults top (at [] None idle false) words
 scram_faults words = fault_is_level words ∙ level_is top words quiet_top checked_top
 
-scram_rows : (words : List Text) → matches_of scram words ≡ fold with_default (end_rows top (at [] None idle false) words) top.rules
+pub scram_rows : (words : List Text) → matches_of scram words ≡ fold with_default (end_rows top (at [] None idle false) words) top.rules
 unfolding scram top end_rows
 scram_rows words = refl
 

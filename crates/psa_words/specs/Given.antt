@@ -132,17 +132,17 @@ abbrev pub default_mission : Scaled
 default_mission = record { negative = false; digits = 8760; exponent = pos 0 }
 
 abbrev pub settings_with : Given → ℕ → Option Scaled → Scaled → Option ℕ → Input → Settings
-settings_with given limit cut_off mission node_limit input = record {
+settings_with given limit cut mission nodes input = record {
   algorithm = if given.has_zbdd then Zbdd else Bdd;
   mode = if given.has_prime_implicants then Primes else CutSets;
   limit_order = limit;
-  cut_off = cut_off;
+  cut_off = cut;
   mission = mission;
   rare_event = given.has_rare_event;
   mcub = given.has_mcub;
   ccf = given.has_ccf;
   validate = given.has_validate;
-  node_limit = node_limit;
+  node_limit = nodes;
   input = input;
 }
 
@@ -153,11 +153,11 @@ x >>= f = option_and_then f x
 abbrev pub values_of : Given → Option Settings
 values_of given =
     value_or 20 (whole_between 1 32) given.limit_order_text >>= (λ limit.
-    optional_value (decimal_that is_fraction) given.cut_off_text >>= (λ cut_off.
+    optional_value (decimal_that is_fraction) given.cut_off_text >>= (λ cut.
     value_or default_mission (decimal_that is_not_below_zero) given.mission_time_text >>= (λ mission.
-    optional_value (whole_between 1 (10 ^ 12)) given.node_limit_text >>= (λ node_limit.
+    optional_value (whole_between 1 (10 ^ 12)) given.node_limit_text >>= (λ nodes.
     input_of given.sample_text given.file_names >>= (λ input.
-    Some (settings_with given limit cut_off mission node_limit input))))))
+    Some (settings_with given limit cut mission nodes input))))))
 
 unfoldable pub settings_from : Given → Option Settings
 settings_from given = if excludes given then None else values_of given

@@ -1,3 +1,6 @@
+ghost use Rattle.std.specs.Prelude.{◌≡◌};
+ghost use Rattle.psa_words.specs.declared.fault.WordsError.TheVariants.{Memory};
+
 use std::alloc::AllocError;
 use thiserror::Error;
 
@@ -13,7 +16,8 @@ pub enum WordsError {
 }
 
 impl From<AllocError> for WordsError {
-    ghost from_gives = { λ e r. r ≡ WordsError.Memory };
+    ghost from_gives = { λ _ e. e ≡ Memory };
+
     fn from(_error: AllocError) -> WordsError {
         WordsError::Memory
     }
