@@ -8,3 +8,4 @@ pub mod Rows
 pub mod Ends
 pub mod Numbers
 pub mod Steps
+pub mod Answered

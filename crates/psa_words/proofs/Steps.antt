@@ -1,5 +1,6 @@
 -- The settings, one value after another.
-use Rattle.std.proofs.Common.{◌≡◌, ◌∙◌, refl, ap, ℕ, Bool, true, false, Option, Some, None, Result, Ok, Err, ◌^◌}
+use Rattle.psa_words.specs.Reading.{Text}
+use Rattle.std.proofs.Common.{subst, List, ◌≡◌, ◌∙◌, refl, ap, ℕ, Bool, true, false, Option, Some, None, Result, Ok, Err, ◌^◌}
 use Rattle.psa_number.specs.Scaled.{Scaled}
 use Rattle.psa_model.specs.declared.settings.Input.{Input}
 use Rattle.psa_model.specs.declared.settings.Settings.{Settings}
@@ -22,6 +23,16 @@ nodes_of given = optional_value (whole_between 1 (10 ^ 12)) given.node_limit_tex
 
 abbrev pub source_of : Given → Option Input
 source_of given = input_of given.sample_text given.file_names
+
+pub same_text : {X : Type 0} (value : Option Text → Option X) (a b : Option Text) (e : WordsError) → a ≡ b
+    → Answers (value a) (let r : Result X WordsError = Err e in r) → Answers (value b) (let r : Result X WordsError = Err e in r)
+same_text {X} value a b e same answer = subst (λ (t : Option Text). Answers (value t) (let r : Result X WordsError = Err e in r)) same answer
+
+pub same_source : (a b : Option Text) (m n : List Text) (e : WordsError) → a ≡ b → m ≡ n
+    → Answers (input_of a m) (let r : Result Input WordsError = Err e in r) → Answers (input_of b n) (let r : Result Input WordsError = Err e in r)
+same_source a b m n e same names answer =
+    subst (λ (t : List Text). Answers (input_of b t) (let r : Result Input WordsError = Err e in r)) names
+      (subst (λ (t : Option Text). Answers (input_of t m) (let r : Result Input WordsError = Err e in r)) same answer)
 
 pub excluded : (g : Given) → excludes g ≡ true → settings_from g ≡ None
 unfolding settings_from

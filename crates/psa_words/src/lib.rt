@@ -22,7 +22,6 @@ use std::alloc::Global;
 /// `BadWords` exactly where the words are refused: an unknown option, one given twice, a flag with a value, a missing
 /// value or one that is not the option's, options that exclude each other, a sample beside a file, neither, or more
 /// than 16 files.
-#[tactic(auto, using(crate::proofs::Ends::taken_words, crate::proofs::Ends::refused_words))]
 pub fn read_words(alloc: Global, words: &Vec<String>) -> Result<Settings, WordsError>
     ensures { Answers (settings_of (map string_bytes words.now.items)) result }
 {

@@ -1,4 +1,6 @@
-ghost use Rattle.std.specs.Prelude.{◌≡◌, ◌==◌, None, IfOk, map, codes, option_and_then, option_map, unwrap_or, length, Some, []};
+ghost use Rattle.std.specs.Prelude.{◌≡◌, ◌==◌, None, IfOk, map, codes, option_and_then, option_map, unwrap_or, length, Some, [], if◌then◌else◌};
+ghost use Rattle.psa_model.specs.declared.settings.Algorithm.TheVariants.{Bdd, Zbdd};
+ghost use Rattle.psa_model.specs.declared.settings.Mode.TheVariants.{CutSets, Primes};
 ghost use Rattle.clap.specs.Words.{found_of, matched_of, raw_values};
 ghost use Rattle.psa_words.specs.Answer.{Answers};
 ghost use Rattle.psa_words.specs.Found.{given_in, all_names, is_given as is_given_in};
@@ -28,19 +30,9 @@ pub fn settings(alloc: Global, matches: &ArgMatches) -> Result<Settings, WordsEr
     let mission = mission_time(matches.get_str("mission-time"))?;
     let node_limit = node_limit(matches.get_str("node-limit"))?;
     let input = input(alloc, matches.get_str("sample"), matches.get_raw("file"))?;
-    let algorithm = if is_given(matches, "zbdd") {
-        Algorithm::Zbdd
-    } else {
-        Algorithm::Bdd
-    };
-    let mode = if is_given(matches, "prime-implicants") {
-        Mode::Primes
-    } else {
-        Mode::CutSets
-    };
     Ok(Settings {
-        algorithm,
-        mode,
+        algorithm: algorithm(matches),
+        mode: mode(matches),
         limit_order,
         cut_off,
         mission,
@@ -51,6 +43,28 @@ pub fn settings(alloc: Global, matches: &ArgMatches) -> Result<Settings, WordsEr
         node_limit,
         input,
     })
+}
+
+/// The algorithm: that of binary decision diagrams, where the other is not given.
+fn algorithm(matches: &ArgMatches) -> Algorithm
+    ensures { result ≡ (if is_given_in (found_of matches.now) (codes "zbdd") then Zbdd else Bdd) }
+{
+    if is_given(matches, "zbdd") {
+        Algorithm::Zbdd
+    } else {
+        Algorithm::Bdd
+    }
+}
+
+/// Which products are listed: minimal cut sets, where prime implicants are not asked for.
+fn mode(matches: &ArgMatches) -> Mode
+    ensures { result ≡ (if is_given_in (found_of matches.now) (codes "prime-implicants") then Primes else CutSets) }
+{
+    if is_given(matches, "prime-implicants") {
+        Mode::Primes
+    } else {
+        Mode::CutSets
+    }
 }
 
 /// Whether the words have this option.
