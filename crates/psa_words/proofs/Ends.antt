@@ -134,7 +134,7 @@ value_end : (s : Setting) (items : List (Item Setting)) (end : List Row) → tak
     → first_of (name_of s) (all_rows end) ≡ value_in s items
 value_end s items end h e =
     ap (λ (x : Option Row). option_and_then (λ (r : Row). slice_get r.values 0) x)
-      (end_row s items end e ∙ ap (λ (x : Option Row). or_first (option_map item_row (find (is_use_of s) items)) x) (no_default s h))
+    (end_row s items end e ∙ ap (λ (x : Option Row). or_first (option_map item_row (find (is_use_of s) items)) x) (no_default s h))
     ∙ option_text s (find (is_use_of s) items) h (λ item f. found_use s items item f)
 
 or_none : (x : Option Row) → or_first x None ≡ x
@@ -144,7 +144,7 @@ or_none (Some x) = refl
 files_end : (items : List (Item Setting)) (end : List Row) → taken built_option built_file [] items ≡ Some end → files_at (all_rows end) ≡ files_in items
 files_end items end e =
     ap (λ (x : Option Row). unwrap_or (option_map (λ (r : Row). r.values) x) [])
-      (defaults_give (codes "file") top.rules end ∙ ap (λ (x : Option Row). or_first (row_at (codes "file") end) x) no_file_default ∙ or_none (row_at (codes "file") end))
+    (defaults_give (codes "file") top.rules end ∙ ap (λ (x : Option Row). or_first (row_at (codes "file") end) x) no_file_default ∙ or_none (row_at (codes "file") end))
     ∙ taken_files items [] end e
 
 -- ---- what is found
@@ -154,14 +154,27 @@ given_is : (found : Found) (items : List (Item Setting)) (end : List Row) → ta
 unfolding given_in
 given_is found items end e rows =
     let has : (s : Setting) → has_option s items ≡ is_given found (name_of s) = λ s.
-        sym (given_end s items end e) ∙ ap (λ (x : List Row). is_command_line (option_and_then (λ (r : Row). r.source) (row_at (name_of s) x))) (sym rows)
-        ∙ ap is_command_line (sym (source_rows found (name_of s))) in
+    sym (given_end s items end e) ∙ ap (λ (x : List Row). is_command_line (option_and_then (λ (r : Row). r.source) (row_at (name_of s) x))) (sym rows)
+    ∙ ap is_command_line (sym (source_rows found (name_of s))) in
     let text : (s : Setting) → takes_value s ≡ true → value_in s items ≡ first_value found (name_of s) = λ s h.
-        sym (value_end s items end h e) ∙ ap (first_of (name_of s)) (sym rows) ∙ sym (first_value-rows found (name_of s)) in
+    sym (value_end s items end h e) ∙ ap (first_of (name_of s)) (sym rows) ∙ sym (first_value-rows found (name_of s)) in
     let names : files_in items ≡ names_in found =
-        sym (files_end items end e) ∙ ap files_at (sym rows) ∙ ap (λ (x : Option (List Text)). unwrap_or x []) (sym (raw_values-rows found (codes "file"))) in
-    rw (has bdd, has zbdd, has prime_implicants, has rare_event, has mcub, has ccf, has validate,
-      text limit_order refl, text cut_off refl, text mission_time refl, text node_limit refl, text sample refl, names) refl
+    sym (files_end items end e) ∙ ap files_at (sym rows) ∙ ap (λ (x : Option (List Text)). unwrap_or x []) (sym (raw_values-rows found (codes "file"))) in
+    rw (
+      has bdd,
+      has zbdd,
+      has prime_implicants,
+      has rare_event,
+      has mcub,
+      has ccf,
+      has validate,
+      text limit_order refl,
+      text cut_off refl,
+      text mission_time refl,
+      text node_limit refl,
+      text sample refl,
+      names,
+    ) refl
 
 found_items : (found : Found) (items : List (Item Setting)) (r : Option (List Row)) (kinds : Kinds) (end : List Row)
     → taken built_option built_file [] items ≡ r → Agrees r kinds end → rows_of found ≡ all_rows end → kinds ≡ []

@@ -14,15 +14,17 @@ pub record IsFirst (b : ℕ) (rest : List ℕ) (x : ℕ) : Type 0 where
 first_of_chars : (b : ℕ) (rest : List ℕ) → (cs : List ℕ) → encodes cs ≡ b ∷ rest → chars (b ∷ rest) ≡ cs → (x : ℕ) × IsFirst b rest x
 first_of_chars b rest [] spells e = absurd (cc)
 first_of_chars b rest (x ∷ xs) spells e =
-    let spelled : b ∷ rest ≡ encode x ++ encodes xs = sym spells in
-    (x, record {
-      is_first = rw e refl;
-      same = λ low. (byte_from_char (b ∷ rest) (encodes xs) x spelled low, rw (encode_ascii x low) refl);
-      high = λ above. elim (cases_lt b 128) [
-        | inl low ↦ let same : x ≡ b = char_from_byte (b ∷ rest) (encodes xs) x spelled low (omega arith) in absurd (omega arith)
-        | inr h ↦ h
-      ];
-    })
+    let spelled : b ∷ rest ≡ encode x ++ encodes xs = sym spells in (
+      x,
+      record {
+        is_first = rw e refl;
+        same = λ low. (byte_from_char (b ∷ rest) (encodes xs) x spelled low, rw (encode_ascii x low) refl);
+        high = λ above. elim (cases_lt b 128) [
+          | inl low ↦ let same : x ≡ b = char_from_byte (b ∷ rest) (encodes xs) x spelled low (omega arith) in absurd (omega arith)
+          | inr h ↦ h
+        ];
+      },
+    )
 
 pub first_char : (b : ℕ) (rest : List ℕ) → IsUtf8 (b ∷ rest) → (x : ℕ) × IsFirst b rest x
 first_char b rest u =

@@ -30,10 +30,10 @@ looks (a ∷ []) = go (a == 45) refl
     go false e = (rw e refl, rw e refl, rw e refl)
 looks (a ∷ (b ∷ rest)) =
     cond_both (a == 45) (cond (b == 45) (long_look rest) (short b rest)) plain (IsLook (a ∷ (b ∷ rest)))
-      (λ e. cond_both (b == 45) (long_look rest) (short b rest) (IsLook (a ∷ (b ∷ rest)))
-        (λ f. second rest e f)
-        (λ f. (rw (e, f) refl, rw (e, f) refl, rw (e, f) refl, ap (λ x. x ∷ (b ∷ rest)) (eqb-true a 45 e))))
-      (λ e. (rw e refl, rw e refl, rw e refl))
+    (λ e. cond_both (b == 45) (long_look rest) (short b rest) (IsLook (a ∷ (b ∷ rest)))
+    (λ f. second rest e f)
+    (λ f. (rw (e, f) refl, rw (e, f) refl, rw (e, f) refl, ap (λ x. x ∷ (b ∷ rest)) (eqb-true a 45 e))))
+    (λ e. (rw e refl, rw e refl, rw e refl))
   where
     second : (more : Text) → (a == 45) ≡ true → (b == 45) ≡ true → IsLook (a ∷ (b ∷ more)) (long_look more)
     second [] e f = rw (e, f) refl

@@ -138,18 +138,18 @@ free_from id rows e = elim (cases_Bool (has_row id rows)) [
 -- the row of an option after a use of an option
 option_step : (s t : Setting) (values : List Text) (rows : List Row) → has_row (name_of t) rows ≡ false
     → row_at (name_of s) (used (built_option t) values rows)
-        ≡ or_first (row_at (name_of s) rows) (cond (is_same s t) (Some (new_row (name_of t) (reading_by (built_option t)) CommandLine (option_values t values))) None)
+    ≡ or_first (row_at (name_of s) rows) (cond (is_same s t) (Some (new_row (name_of t) (reading_by (built_option t)) CommandLine (option_values t values))) None)
 option_step s t values rows free = elim (cases_Bool (is_same s t)) [
   | inl e ↦
-    let gone : row_at (name_of s) rows ≡ None = ap (λ (id : Text). row_at id rows) (tells (name_of s) (name_of t) e) ∙ absent (name_of t) rows free in
-    let there = with_new (name_of t) (reading_by (built_option t)) CommandLine (option_values t values) rows free in
-    let named : row_at (name_of s) (with_values (name_of t) (reading_by (built_option t)) CommandLine (option_values t values) rows)
-        ≡ Some (new_row (name_of t) (reading_by (built_option t)) CommandLine (option_values t values)) =
-        ap (λ (id : Text). row_at id (with_values (name_of t) (reading_by (built_option t)) CommandLine (option_values t values) rows)) (tells (name_of s) (name_of t) e) ∙ there in
-    rw (option_use t values rows, without_absent (name_of t) rows free, gone, e) named
+      let gone : row_at (name_of s) rows ≡ None = ap (λ (id : Text). row_at id rows) (tells (name_of s) (name_of t) e) ∙ absent (name_of t) rows free in
+      let there = with_new (name_of t) (reading_by (built_option t)) CommandLine (option_values t values) rows free in
+      let named : row_at (name_of s) (with_values (name_of t) (reading_by (built_option t)) CommandLine (option_values t values) rows)
+      ≡ Some (new_row (name_of t) (reading_by (built_option t)) CommandLine (option_values t values)) =
+      ap (λ (id : Text). row_at id (with_values (name_of t) (reading_by (built_option t)) CommandLine (option_values t values) rows)) (tells (name_of s) (name_of t) e) ∙ there in
+      rw (option_use t values rows, without_absent (name_of t) rows free, gone, e) named
   | inr e ↦
-    let stays = with_other (name_of t) (name_of s) (reading_by (built_option t)) CommandLine (option_values t values) rows (turned (name_of s) (name_of t) e) in
-    rw (option_use t values rows, without_absent (name_of t) rows free, e) (stays ∙ sym (or_none (row_at (name_of s) rows)))
+      let stays = with_other (name_of t) (name_of s) (reading_by (built_option t)) CommandLine (option_values t values) rows (turned (name_of s) (name_of t) e) in
+      rw (option_use t values rows, without_absent (name_of t) rows free, e) (stays ∙ sym (or_none (row_at (name_of s) rows)))
 ]
 
 free_option : (t : Setting) (rows : List Row) → repeat_fault false (built_option t).id rows ≡ [] → has_row (name_of t) rows ≡ false
@@ -202,7 +202,7 @@ files_stay : (t : Setting) (values : List Text) (rows : List Row) → has_row (n
 files_stay t values rows free =
     let stays = with_other (name_of t) (codes "file") (reading_by (built_option t)) CommandLine (option_values t values) rows (turned (codes "file") (name_of t) (not_file t)) in
     rw (option_use t values rows, without_absent (name_of t) rows free)
-      (ap (λ (x : Option Row). unwrap_or (option_map (λ (r : Row). r.values) x) []) stays ∙ sym (append-nil (files_at rows)))
+    (ap (λ (x : Option Row). unwrap_or (option_map (λ (r : Row). r.values) x) []) stays ∙ sym (append-nil (files_at rows)))
 
 files_cons : (item : Item Setting) (items : List (Item Setting)) → item_files item ++ files_in items ≡ files_in (item ∷ items)
 files_cons (file text) items = refl
@@ -311,11 +311,11 @@ once [] rows = refl
 once (item ∷ items) rows = elim (cases_Bool (item_taken item rows)) [
   | inl e ↦ rw (loud_item item rows e, e) refl
   | inr e ↦
-    let quiet = quiet_item item rows e in
-    let rest = once items (item_rows built_option built_file item rows)
-        ∙ ap (λ (x : Bool). not (x || has_repeat items)) (any_after items item rows quiet)
-        ∙ ap not (or_joined (any_taken rows items) (repeats item items) (has_repeat items)) in
-    rw (quiet, e) rest
+      let quiet = quiet_item item rows e in
+      let rest = once items (item_rows built_option built_file item rows)
+      ∙ ap (λ (x : Bool). not (x || has_repeat items)) (any_after items item rows quiet)
+      ∙ ap not (or_joined (any_taken rows items) (repeats item items) (has_repeat items)) in
+      rw (quiet, e) rest
 ]
 
 none_taken : (items : List (Item Setting)) → any_taken [] items ≡ false
@@ -343,7 +343,7 @@ not_empty v vs = ne_eqb (length (v ∷ vs)) 0 (λ h. omega arith)
 
 default_step : (id own : Text) (how : Reading) (values : List Text) (rows : List Row) (rest : Option Row)
     → or_first (row_at id (cond (has_row own rows) rows (default_rows own how values rows))) rest
-        ≡ or_first (row_at id rows) (cond (bytes_eq own id && not (is_empty values)) (Some (new_row own how DefaultValue values)) rest)
+    ≡ or_first (row_at id rows) (cond (bytes_eq own id && not (is_empty values)) (Some (new_row own how DefaultValue values)) rest)
 default_step id own how [] rows rest = elim (cases_Bool (has_row own rows)) [
   | inl h ↦ elim (cases_Bool (bytes_eq own id)) [ inl e ↦ rw (h, e) refl | inr e ↦ rw (h, e) refl ]
   | inr h ↦ elim (cases_Bool (bytes_eq own id)) [ inl e ↦ rw (h, e) refl | inr e ↦ rw (h, e) refl ]
@@ -351,16 +351,16 @@ default_step id own how [] rows rest = elim (cases_Bool (has_row own rows)) [
 default_step id own how (v ∷ vs) rows rest = let some : is_empty (v ∷ vs) ≡ false = not_empty v vs in elim (cases_Bool (has_row own rows)) [
   | inl h ↦ elim (cases_Bool (bytes_eq own id)) [
     | inl e ↦
-      let there : is_some (row_at id rows) ≡ true = sym (has_is id rows) ∙ ap (λ (t : Text). has_row t rows) (sym (tells own id e)) ∙ h in
-      rw (h, e, some) (first_only (row_at id rows) rest (Some (new_row own how DefaultValue (v ∷ vs))) there)
+        let there : is_some (row_at id rows) ≡ true = sym (has_is id rows) ∙ ap (λ (t : Text). has_row t rows) (sym (tells own id e)) ∙ h in
+        rw (h, e, some) (first_only (row_at id rows) rest (Some (new_row own how DefaultValue (v ∷ vs))) there)
     | inr e ↦ rw (h, e) refl
   ]
   | inr h ↦ elim (cases_Bool (bytes_eq own id)) [
     | inl e ↦
-      let gone : row_at id rows ≡ None = ap (λ (t : Text). row_at t rows) (sym (tells own id e)) ∙ absent own rows h in
-      let there : row_at id (with_values own how DefaultValue (v ∷ vs) rows) ≡ Some (new_row own how DefaultValue (v ∷ vs)) =
-          ap (λ (t : Text). row_at t (with_values own how DefaultValue (v ∷ vs) rows)) (sym (tells own id e)) ∙ with_new own how DefaultValue (v ∷ vs) rows h in
-      rw (h, e, some, there, gone) refl
+        let gone : row_at id rows ≡ None = ap (λ (t : Text). row_at t rows) (sym (tells own id e)) ∙ absent own rows h in
+        let there : row_at id (with_values own how DefaultValue (v ∷ vs) rows) ≡ Some (new_row own how DefaultValue (v ∷ vs)) =
+        ap (λ (t : Text). row_at t (with_values own how DefaultValue (v ∷ vs) rows)) (sym (tells own id e)) ∙ with_new own how DefaultValue (v ∷ vs) rows h in
+        rw (h, e, some, there, gone) refl
     | inr e ↦ rw (h, e, with_other own id how DefaultValue (v ∷ vs) rows e) refl
   ]
 ]

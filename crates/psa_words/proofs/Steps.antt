@@ -32,7 +32,7 @@ pub same_source : (a b : Option Text) (m n : List Text) (e : WordsError) → a �
     → Answers (input_of a m) (let r : Result Input WordsError = Err e in r) → Answers (input_of b n) (let r : Result Input WordsError = Err e in r)
 same_source a b m n e same names answer =
     subst (λ (t : List Text). Answers (input_of b t) (let r : Result Input WordsError = Err e in r)) names
-      (subst (λ (t : Option Text). Answers (input_of t m) (let r : Result Input WordsError = Err e in r)) same answer)
+    (subst (λ (t : Option Text). Answers (input_of t m) (let r : Result Input WordsError = Err e in r)) same answer)
 
 pub excluded : (g : Given) → excludes g ≡ true → settings_from g ≡ None
 unfolding settings_from

@@ -190,11 +190,11 @@ pub turn_valued : {O : Type 0} (t : Table O) (s : Shape) (rule : O → Rule) (f 
     → (rows : List Row) (pending : Pending) (waiting : Waiting) (word : Text) (o : O) (text : Text) → t.takes_value o ≡ true
     → Means s rows pending waiting word (rule o) (Some text)
     → Turn s (at rows pending waiting false) word (at (used (rule o) (text ∷ []) (settled_rows s.rules pending rows)) None idle false)
-        (or_else (settling s rows pending) (repeat_fault false (rule o).id (settled_rows s.rules pending rows)))
+    (or_else (settling s rows pending) (repeat_fault false (rule o).id (settled_rows s.rules pending rows)))
 turn_valued t s rule f fits rows pending waiting word o text takes means =
     same_kinds s (at rows pending waiting false) word (at (used (rule o) (text ∷ []) (settled_rows s.rules pending rows)) None idle false) _ _
-      (or_nothing _ ∙ ap (or_else (settling s rows pending)) (fits.value_use o takes text (settled_rows s.rules pending rows)))
-      (turn_from s rows pending waiting false word (holding (used (rule o) (text ∷ []) (settled_rows s.rules pending rows)) None) (next idle) _ means.met means.fault)
+    (or_nothing _ ∙ ap (or_else (settling s rows pending)) (fits.value_use o takes text (settled_rows s.rules pending rows)))
+    (turn_from s rows pending waiting false word (holding (used (rule o) (text ∷ []) (settled_rows s.rules pending rows)) None) (next idle) _ means.met means.fault)
 
 pub turn_waits : {O : Type 0} (t : Table O) (s : Shape) (rule : O → Rule) (f : Rule) → Fits t s rule f
     → (rows : List Row) (pending : Pending) (waiting : Waiting) (word : Text) (o : O)
@@ -202,8 +202,8 @@ pub turn_waits : {O : Type 0} (t : Table O) (s : Shape) (rule : O → Rule) (f :
     → Turn s (at rows pending waiting false) word (at (settled_rows s.rules pending rows) (Some ((rule o).id, [])) (option (rule o).id) false) (settling s rows pending)
 turn_waits t s rule f fits rows pending waiting word o means =
     same_kinds s (at rows pending waiting false) word (at (settled_rows s.rules pending rows) (Some ((rule o).id, [])) (option (rule o).id) false) _ _
-      (or_nothing _)
-      (turn_from s rows pending waiting false word (holding (settled_rows s.rules pending rows) (Some ((rule o).id, []))) (next (option (rule o).id)) _ means.met means.fault)
+    (or_nothing _)
+    (turn_from s rows pending waiting false word (holding (settled_rows s.rules pending rows) (Some ((rule o).id, []))) (next (option (rule o).id)) _ means.met means.fault)
 
 pub long_means : {O : Type 0} (t : Table O) (s : Shape) (rule : O → Rule) (f : Rule) → Fits t s rule f
     → (rows : List Row) (pending : Pending) (waiting : Waiting) (word name : Text) (v : Option Text) (o : O) → t.takes_value o ≡ true
@@ -221,15 +221,15 @@ pub turn_flag : {O : Type 0} (t : Table O) (s : Shape) (rule : O → Rule) (f : 
     → (rows : List Row) (pending : Pending) (waiting : Waiting) (word name : Text) (o : O) → t.takes_value o ≡ false
     → bytes_eq word two_hyphens ≡ false → long_of word ≡ Some (name, None) → t.long_name name ≡ Some o
     → Turn s (at rows pending waiting false) word (at (used (rule o) [] (settled_rows s.rules pending rows)) None idle false)
-        (or_else (settling s rows pending) (repeat_fault false (rule o).id (settled_rows s.rules pending rows)))
+    (or_else (settling s rows pending) (repeat_fault false (rule o).id (settled_rows s.rules pending rows)))
 turn_flag t s rule f fits rows pending waiting word name o takes is_word is_long known =
     let found : arg_by_long s.rules name ≡ Some (rule o) = fits.long_is name ∙ ap (option_map rule) known in
     let takes_values_is : takes_values (rule o) ≡ false = fits.takes o ∙ takes in
     same_kinds s (at rows pending waiting false) word (at (used (rule o) [] (settled_rows s.rules pending rows)) None idle false) _ _
-      (or_nothing _ ∙ ap (or_else (settling s rows pending)) (fits.flag_use o takes (settled_rows s.rules pending rows)))
-      (turn_from s rows pending waiting false word (holding (used (rule o) [] (settled_rows s.rules pending rows)) None) (next idle)
-        (or_else (settling s rows pending) (use_fault s.args_override_self (rule o) [] (settled_rows s.rules pending rows)))
-        (rw (no_sub waiting word, is_word, is_long, found, takes_values_is) refl) (rw (no_sub waiting word, is_word, is_long, found, takes_values_is) refl))
+    (or_nothing _ ∙ ap (or_else (settling s rows pending)) (fits.flag_use o takes (settled_rows s.rules pending rows)))
+    (turn_from s rows pending waiting false word (holding (used (rule o) [] (settled_rows s.rules pending rows)) None) (next idle)
+    (or_else (settling s rows pending) (use_fault s.args_override_self (rule o) [] (settled_rows s.rules pending rows)))
+    (rw (no_sub waiting word, is_word, is_long, found, takes_values_is) refl) (rw (no_sub waiting word, is_word, is_long, found, takes_values_is) refl))
 
 -- the word is refused
 pub word_stops : (s : Shape) (rows : List Row) (pending : Pending) (waiting : Waiting) (word : Text) (words : List Text) (x : ErrorKind) (xs : Kinds)
@@ -272,8 +272,8 @@ pub short_means : {O : Type 0} (t : Table O) (s : Shape) (rule : O → Rule) (f 
     → Means s rows pending waiting word (rule o) (value_behind rest)
 short_means t s rule f fits rows pending waiting word b rest o is_word is_long is_short x first known = elim (cases_lt x 128) [
   | inl low ↦
-    let known_x : t.short_name x ≡ Some o = ap t.short_name (sym (first.same low).0) ∙ known in
-    short_option t s rule f fits rows pending waiting word b rest (rule o) x is_word is_long is_short first.is_first (first.same low).1
+      let known_x : t.short_name x ≡ Some o = ap t.short_name (sym (first.same low).0) ∙ known in
+      short_option t s rule f fits rows pending waiting word b rest (rule o) x is_word is_long is_short first.is_first (first.same low).1
       (fits.short_is x ∙ ap (option_map rule) known_x) (fits.takes o ∙ fits.short_takes b o known)
   | inr above ↦ let unknown : t.short_name b ≡ None = fits.short_ascii b (first.high above) in absurd (cc)
 ]

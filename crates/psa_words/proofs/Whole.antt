@@ -40,11 +40,11 @@ end_agrees s rows pending waiting over = ends (settling s rows pending) (settled
 item_agrees : {O : Type 0} (rule : O → Rule) (f : Rule) (s : Shape) (rows : List Row) (pending : Pending) (item : Item O) (r : Option (List (Item O))) (kinds : Kinds) (end : List Row)
     → Agrees (judged rule f (item_rows rule f item (settled_rows s.rules pending rows)) r) kinds end
     → Agrees (after_pending rule f s rows pending (option_map (λ items. item ∷ items) r))
-        (or_else (or_else (settling s rows pending) (item_fault rule item (settled_rows s.rules pending rows))) kinds) end
+    (or_else (or_else (settling s rows pending) (item_fault rule item (settled_rows s.rules pending rows))) kinds) end
 item_agrees rule f s rows pending item r kinds end a =
     let now : List Row = settled_rows s.rules pending rows in
     let both = agrees_next (settling s rows pending) (taken_next (item_fault rule item now) (judged rule f (item_rows rule f item now) r)) (or_else (item_fault rule item now) kinds) end
-        (agrees_next (item_fault rule item now) (judged rule f (item_rows rule f item now) r) kinds end a) in
+    (agrees_next (item_fault rule item now) (judged rule f (item_rows rule f item now) r) kinds end a) in
     rw (judged_item rule f (settled_rows s.rules pending rows) item r, or_else_assoc (settling s rows pending) (item_fault rule item (settled_rows s.rules pending rows)) kinds) both
 
 -- an item that is pending
@@ -71,10 +71,10 @@ after t s rule f fits (word ∷ words) rows pending waiting =
     let rest = read t after_dashes words in
     let next : Walk = at now (Some (f.id, word ∷ [])) positional true in
     goes s (at rows pending waiting true) next word words (settling s rows pending) (after_pending rule f s rows pending (option_map (λ items. file word ∷ items) rest))
-      (turn_file t s rule f fits rows pending waiting true word refl refl)
-      (agrees_next (settling s rows pending) (judged rule f now (option_map (λ items. file word ∷ items) rest)) (faults s next words) (end_rows s next words)
-        (same_agrees _ _ (faults s next words) (end_rows s next words) (file_pending t s rule f fits now word rest)
-          (after t s rule f fits words now (Some (f.id, word ∷ [])) positional)))
+    (turn_file t s rule f fits rows pending waiting true word refl refl)
+    (agrees_next (settling s rows pending) (judged rule f now (option_map (λ items. file word ∷ items) rest)) (faults s next words) (end_rows s next words)
+    (same_agrees _ _ (faults s next words) (end_rows s next words) (file_pending t s rule f fits now word rest)
+    (after t s rule f fits words now (Some (f.id, word ∷ [])) positional)))
 
 end_lost : (s : Shape) (rows : List Row) (pending : Pending) (waiting : Waiting) (x : ErrorKind) (xs : Kinds) → settling s rows pending ≡ x ∷ xs
     → faults s (at rows pending waiting true) [] ≡ [] → ⊥
@@ -98,7 +98,7 @@ Between t s rule f words = (rows : List Row) (pending : Pending) (waiting : Wait
 abbrev Awaits : {O : Type 0} → Table O → Shape → (O → Rule) → Rule → List Text → Type 0
 Awaits {O} t s rule f words = (o : O) → t.takes_value o ≡ true → (rows : List Row)
     → Agrees (judged rule f rows (read t (before_value o) words)) (faults s (at rows (Some ((rule o).id, [])) (waits (rule o).id) false) words)
-        (end_rows s (at rows (Some ((rule o).id, [])) (waits (rule o).id) false) words)
+    (end_rows s (at rows (Some ((rule o).id, [])) (waits (rule o).id) false) words)
 
 -- an option, with the value in its word
 option_agrees : {O : Type 0} (t : Table O) (s : Shape) (rule : O → Rule) (f : Rule) → Fits t s rule f
@@ -111,17 +111,17 @@ option_agrees t s rule f fits words go wait rows pending waiting word o (Some te
     let next : Walk = at (used (rule o) (text ∷ []) now) None idle false in
     let m : Option (List Row) = after_pending rule f s rows pending (option_map (λ items. valued o text ∷ items) (read t between words)) in
     let a : Agrees m (faults s (at rows pending waiting false) (word ∷ words)) (end_rows s (at rows pending waiting false) (word ∷ words)) =
-        goes s (at rows pending waiting false) next word words _ m (turn_valued t s rule f fits rows pending waiting word o text takes means)
-          (item_agrees rule f s rows pending (valued o text) (read t between words) (faults s next words) (end_rows s next words)
-            (go (used (rule o) (text ∷ []) now) None idle (λ w h. refl))) in
+    goes s (at rows pending waiting false) next word words _ m (turn_valued t s rule f fits rows pending waiting word o text takes means)
+    (item_agrees rule f s rows pending (valued o text) (read t between words) (faults s next words) (end_rows s next words)
+    (go (used (rule o) (text ∷ []) now) None idle (λ w h. refl))) in
     rw takes a
 option_agrees t s rule f fits words go wait rows pending waiting word o None takes means =
     let now : List Row = settled_rows s.rules pending rows in
     let next : Walk = at now (Some ((rule o).id, [])) (waits (rule o).id) false in
     let m : Option (List Row) = after_pending rule f s rows pending (read t (before_value o) words) in
     let a : Agrees m (faults s (at rows pending waiting false) (word ∷ words)) (end_rows s (at rows pending waiting false) (word ∷ words)) =
-        goes s (at rows pending waiting false) next word words _ m (turn_waits t s rule f fits rows pending waiting word o means)
-          (agrees_next (settling s rows pending) (judged rule f now (read t (before_value o) words)) (faults s next words) (end_rows s next words) (wait o takes now)) in
+    goes s (at rows pending waiting false) next word words _ m (turn_waits t s rule f fits rows pending waiting word o means)
+    (agrees_next (settling s rows pending) (judged rule f now (read t (before_value o) words)) (faults s next words) (end_rows s next words) (wait o takes now)) in
     rw takes a
 
 flag_agrees : {O : Type 0} (t : Table O) (s : Shape) (rule : O → Rule) (f : Rule) → Fits t s rule f
@@ -131,16 +131,16 @@ flag_agrees : {O : Type 0} (t : Table O) (s : Shape) (rule : O → Rule) (f : Ru
     → Agrees (after_pending rule f s rows pending (read_option t o v (λ p. read t p words))) (faults s (at rows pending waiting false) (word ∷ words)) (end_rows s (at rows pending waiting false) (word ∷ words))
 flag_agrees t s rule f fits words go rows pending waiting word name o (Some text) takes is_word is_long known =
     let a = refused_agrees (settling s rows pending) (faults s (at rows pending waiting false) (word ∷ words)) (end_rows s (at rows pending waiting false) (word ∷ words))
-        (word_stops s rows pending waiting word words kind.TooManyValues [] (flag_with_value t s rule f fits rows pending waiting word name text o takes is_word is_long known)) in
+    (word_stops s rows pending waiting word words kind.TooManyValues [] (flag_with_value t s rule f fits rows pending waiting word name text o takes is_word is_long known)) in
     rw takes a
 flag_agrees t s rule f fits words go rows pending waiting word name o None takes is_word is_long known =
     let now : List Row = settled_rows s.rules pending rows in
     let next : Walk = at (used (rule o) [] now) None idle false in
     let m : Option (List Row) = after_pending rule f s rows pending (option_map (λ items. flag o ∷ items) (read t between words)) in
     let a : Agrees m (faults s (at rows pending waiting false) (word ∷ words)) (end_rows s (at rows pending waiting false) (word ∷ words)) =
-        goes s (at rows pending waiting false) next word words _ m (turn_flag t s rule f fits rows pending waiting word name o takes is_word is_long known)
-          (item_agrees rule f s rows pending (flag o) (read t between words) (faults s next words) (end_rows s next words)
-            (go (used (rule o) [] now) None idle (λ w h. refl))) in
+    goes s (at rows pending waiting false) next word words _ m (turn_flag t s rule f fits rows pending waiting word name o takes is_word is_long known)
+    (item_agrees rule f s rows pending (flag o) (read t between words) (faults s next words) (end_rows s next words)
+    (go (used (rule o) [] now) None idle (λ w h. refl))) in
     rw takes a
 
 -- `--name`, by what the name means
@@ -151,7 +151,7 @@ long_agrees : {O : Type 0} (t : Table O) (s : Shape) (rule : O → Rule) (f : Ru
     → Agrees (after_pending rule f s rows pending (read_if_known t known v (λ p. read t p words))) (faults s (at rows pending waiting false) (word ∷ words)) (end_rows s (at rows pending waiting false) (word ∷ words))
 long_agrees t s rule f fits words go wait rows pending waiting word name v is_word is_long None known =
     refused_agrees (settling s rows pending) (faults s (at rows pending waiting false) (word ∷ words)) (end_rows s (at rows pending waiting false) (word ∷ words))
-      (word_stops s rows pending waiting word words kind.UnknownArgument [] (long_unknown t s rule f fits rows pending waiting word name v is_word is_long known))
+    (word_stops s rows pending waiting word words kind.UnknownArgument [] (long_unknown t s rule f fits rows pending waiting word name v is_word is_long known))
 long_agrees t s rule f fits words go wait rows pending waiting word name v is_word is_long (Some o) known = elim (cases_Bool (t.takes_value o)) [
   | inl takes ↦ option_agrees t s rule f fits words go wait rows pending waiting word o v takes
       (long_means t s rule f fits rows pending waiting word name v o takes is_word is_long known)
@@ -166,10 +166,10 @@ short_agrees : {O : Type 0} (t : Table O) (s : Shape) (rule : O → Rule) (f : R
     → Agrees (after_pending rule f s rows pending (read_if_known t known (value_behind rest) (λ p. read t p words))) (faults s (at rows pending waiting false) (word ∷ words)) (end_rows s (at rows pending waiting false) (word ∷ words))
 short_agrees t s rule f fits words go wait rows pending waiting word b rest is_word is_long is_short x first None known =
     refused_agrees (settling s rows pending) (faults s (at rows pending waiting false) (word ∷ words)) (end_rows s (at rows pending waiting false) (word ∷ words))
-      (word_stops s rows pending waiting word words kind.UnknownArgument [] (short_unknown t s rule f fits rows pending waiting word b rest is_word is_long is_short x first known))
+    (word_stops s rows pending waiting word words kind.UnknownArgument [] (short_unknown t s rule f fits rows pending waiting word b rest is_word is_long is_short x first known))
 short_agrees t s rule f fits words go wait rows pending waiting word b rest is_word is_long is_short x first (Some o) known =
     option_agrees t s rule f fits words go wait rows pending waiting word o (value_behind rest) (fits.short_takes b o known)
-      (short_means t s rule f fits rows pending waiting word b rest o is_word is_long is_short x first known)
+    (short_means t s rule f fits rows pending waiting word b rest o is_word is_long is_short x first known)
 
 -- the first character behind the hyphen
 word_first : (word : Text) (b : ℕ) (rest : Text) → IsUtf8 word → word ≡ 45 ∷ (b ∷ rest) → (x : ℕ) × IsFirst b rest x
@@ -183,7 +183,7 @@ between_word : {O : Type 0} (t : Table O) (s : Shape) (rule : O → Rule) (f : R
     → Agrees (after_pending rule f s rows pending (read_between t look word (λ p. read t p words))) (faults s (at rows pending waiting false) (word ∷ words)) (end_rows s (at rows pending waiting false) (word ∷ words))
 between_word t s rule f fits words go wait rows pending waiting quiet word u dashes is =
     goes s (at rows pending waiting false) (at rows pending waiting true) word words [] (after_pending rule f s rows pending (read t after_dashes words))
-      (turn_dashes s rows pending waiting word is) (after t s rule f fits words rows pending waiting)
+    (turn_dashes s rows pending waiting word is) (after t s rule f fits words rows pending waiting)
 between_word t s rule f fits words go wait rows pending waiting quiet word u (long name v) is =
     long_agrees t s rule f fits words go wait rows pending waiting word name v is.0 is.1 (t.long_name name) refl
 between_word t s rule f fits words go wait rows pending waiting quiet word u (short b rest) is =
@@ -194,11 +194,11 @@ between_word t s rule f fits words go wait rows pending waiting quiet word u pla
     let rest = read t between words in
     let next : Walk = at now (Some (f.id, word ∷ [])) positional false in
     goes s (at rows pending waiting false) next word words (settling s rows pending) (after_pending rule f s rows pending (option_map (λ items. file word ∷ items) rest))
-      (turn_file t s rule f fits rows pending waiting false word
-        (rw (no_sub waiting word, is.0, is.1, is.2) (quiet word (holding rows pending))) (rw (no_sub waiting word, is.0, is.1, is.2) refl))
-      (agrees_next (settling s rows pending) (judged rule f now (option_map (λ items. file word ∷ items) rest)) (faults s next words) (end_rows s next words)
-        (same_agrees _ _ (faults s next words) (end_rows s next words) (file_pending t s rule f fits now word rest)
-          (go now (Some (f.id, word ∷ [])) positional (λ w h. refl))))
+    (turn_file t s rule f fits rows pending waiting false word
+    (rw (no_sub waiting word, is.0, is.1, is.2) (quiet word (holding rows pending))) (rw (no_sub waiting word, is.0, is.1, is.2) refl))
+    (agrees_next (settling s rows pending) (judged rule f now (option_map (λ items. file word ∷ items) rest)) (faults s next words) (end_rows s next words)
+    (same_agrees _ _ (faults s next words) (end_rows s next words) (file_pending t s rule f fits now word rest)
+    (go now (Some (f.id, word ∷ [])) positional (λ w h. refl))))
 
 -- a word where a value is missing
 option_lost : (s : Shape) (rows : List Row) (pending : Pending) (a : Rule) (v : Option Text) (x : ErrorKind) (xs : Kinds) → settling s rows pending ≡ x ∷ xs
@@ -233,7 +233,7 @@ short_lost t s rule f fits words rows pending waiting word b rest x xs h is_word
     word_stops s rows pending waiting word words kind.UnknownArgument [] (short_unknown t s rule f fits rows pending waiting word b rest is_word is_long is_short c first known)
 short_lost t s rule f fits words rows pending waiting word b rest x xs h is_word is_long is_short c first (Some o) known =
     word_stops s rows pending waiting word words x xs
-      ((short_means t s rule f fits rows pending waiting word b rest o is_word is_long is_short c first known).fault ∙ option_lost s rows pending (rule o) (value_behind rest) x xs h)
+    ((short_means t s rule f fits rows pending waiting word b rest o is_word is_long is_short c first known).fault ∙ option_lost s rows pending (rule o) (value_behind rest) x xs h)
 
 -- the value of an option
 turn_value : {O : Type 0} (t : Table O) (s : Shape) (rule : O → Rule) (f : Rule) → Fits t s rule f
@@ -241,25 +241,25 @@ turn_value : {O : Type 0} (t : Table O) (s : Shape) (rule : O → Rule) (f : Rul
     → Turn s (at rows (Some ((rule o).id, [])) (waits (rule o).id) false) word (at rows (Some ((rule o).id, word ∷ [])) idle false) []
 turn_value t s rule f fits rows o word takes is =
     turn_from s rows (Some ((rule o).id, [])) (waits (rule o).id) false word (holding rows (Some ((rule o).id, word ∷ []))) (goes_on idle) []
-      (rw (is.0, is.1, is.2, fits.by_id o, fits.same_id o, fits.one o takes) refl) (rw (is.0, is.1, is.2) refl)
+    (rw (is.0, is.1, is.2, fits.by_id o, fits.same_id o, fits.one o takes) refl) (rw (is.0, is.1, is.2) refl)
 
 -- one more word where a value is awaited
 value_word : {O : Type 0} (t : Table O) (s : Shape) (rule : O → Rule) (f : Rule) → Fits t s rule f
     → (words : List Text) → Between t s rule f words
     → (o : O) → t.takes_value o ≡ true → (rows : List Row) → (word : Text) → IsUtf8 word → (look : Look) → IsLook word look
     → Agrees (judged rule f rows (read_value o look word (λ p. read t p words))) (faults s (at rows (Some ((rule o).id, [])) (waits (rule o).id) false) (word ∷ words))
-        (end_rows s (at rows (Some ((rule o).id, [])) (waits (rule o).id) false) (word ∷ words))
+    (end_rows s (at rows (Some ((rule o).id, [])) (waits (rule o).id) false) (word ∷ words))
 value_word t s rule f fits words go o takes rows word u plain is =
     let next : Walk = at rows (Some ((rule o).id, word ∷ [])) idle false in
     goes s (at rows (Some ((rule o).id, [])) (waits (rule o).id) false) next word words [] (judged rule f rows (option_map (λ items. valued o word ∷ items) (read t between words)))
-      (turn_value t s rule f fits rows o word takes is)
-      (same_agrees _ _ (faults s next words) (end_rows s next words) (valued_pending t s rule f fits rows o word (read t between words) takes)
-        (go rows (Some ((rule o).id, word ∷ [])) idle (λ w h. refl)))
+    (turn_value t s rule f fits rows o word takes is)
+    (same_agrees _ _ (faults s next words) (end_rows s next words) (valued_pending t s rule f fits rows o word (read t between words) takes)
+    (go rows (Some ((rule o).id, word ∷ [])) idle (λ w h. refl)))
 value_word t s rule f fits words go o takes rows word u dashes is =
     let settled : settling s rows (Some ((rule o).id, [])) ≡ kind.InvalidValue ∷ [] = rw (fits.by_id o) (fits.no_value o takes rows) in
     goes s (at rows (Some ((rule o).id, [])) (waits (rule o).id) false) (at rows (Some ((rule o).id, [])) (waits (rule o).id) true) word words [] None
-      (turn_dashes s rows (Some ((rule o).id, [])) (waits (rule o).id) word is)
-      (lost t s rule f fits words rows (Some ((rule o).id, [])) (waits (rule o).id) kind.InvalidValue [] settled)
+    (turn_dashes s rows (Some ((rule o).id, [])) (waits (rule o).id) word is)
+    (lost t s rule f fits words rows (Some ((rule o).id, [])) (waits (rule o).id) kind.InvalidValue [] settled)
 value_word t s rule f fits words go o takes rows word u (long name v) is =
     let settled : settling s rows (Some ((rule o).id, [])) ≡ kind.InvalidValue ∷ [] = rw (fits.by_id o) (fits.no_value o takes rows) in
     long_lost t s rule f fits words rows (Some ((rule o).id, [])) (waits (rule o).id) word name v kind.InvalidValue [] settled is.0 is.1 (t.long_name name) refl
@@ -284,9 +284,10 @@ both : {O : Type 0} (t : Table O) (s : Shape) (rule : O → Rule) (f : Rule) →
 unfolding read taken
 both t s rule f fits [] all = (λ rows pending waiting quiet. end_agrees s rows pending waiting false, value_end t s rule f fits)
 both t s rule f fits (word ∷ words) all =
-    let rest = both t s rule f fits words all.1 in
-    (λ rows pending waiting quiet. between_word t s rule f fits words rest.0 rest.1 rows pending waiting quiet word all.0 (look_of word) (looks word),
-     λ o takes rows. value_word t s rule f fits words rest.0 o takes rows word all.0 (look_of word) (looks word))
+    let rest = both t s rule f fits words all.1 in (
+      λ rows pending waiting quiet. between_word t s rule f fits words rest.0 rest.1 rows pending waiting quiet word all.0 (look_of word) (looks word),
+      λ o takes rows. value_word t s rule f fits words rest.0 o takes rows word all.0 (look_of word) (looks word),
+    )
 
 -- the reading refuses exactly where the parser finds a fault; else the parser's rows are those of the items
 pub words_agree : {O : Type 0} (t : Table O) (s : Shape) (rule : O → Rule) (f : Rule) → Fits t s rule f

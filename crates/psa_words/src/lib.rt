@@ -13,7 +13,6 @@ mod settings;
 mod values;
 
 pub use fault::WordsError;
-
 use psa_model::Settings;
 use std::alloc::Global;
 

@@ -15,7 +15,7 @@ returns-in_err-limit_order c =
     let g : Given = given_in (found_of c.args.matches.now) in
     let none_excluded : excludes g ≡ false = sym c.excludes.ensures ∙ c.if-excludes.false in
     let p = err_from_is_err_and c.from_residual.result c.from_residual.ensures.1 in
-    rw (p.1, p.2) (stops_at_limit g  c.in_err-limit_order.field-0.0 none_excluded  (same_text (value_or 20 (whole_between 1 32)) _ _ c.in_err-limit_order.field-0.0 c.get_str.ensures c.in_err-limit_order.ensures))
+    rw (p.1, p.2) (stops_at_limit g c.in_err-limit_order.field-0.0 none_excluded (same_text (value_or 20 (whole_between 1 32)) _ _ c.in_err-limit_order.field-0.0 c.get_str.ensures c.in_err-limit_order.ensures))
 
 pub returns-in_err-cut_off : goal.returns-in_err-cut_off
 unfolding given_in
@@ -70,4 +70,4 @@ returns c =
     let node_limit_is : nodes_of g ≡ Some c.in_ok-node_limit.node_limit = rw c.get_str-4.ensures at c.in_ok-node_limit.ensures in
     let input_is : source_of g ≡ Some c.in_ok-input.input = rw (c.get_str-5.ensures, c.get_raw.ensures) at c.in_ok-input.ensures in
     rw (c.algorithm.ensures, c.mode.ensures, c.is_given.ensures, c.is_given-2.ensures, c.is_given-3.ensures, c.is_given-4.ensures)
-      (settings_made g c.in_ok-limit_order.limit_order c.in_ok-cut_off.cut_off c.in_ok-mission.mission c.in_ok-node_limit.node_limit c.in_ok-input.input none_excluded limit_order_is cut_off_is mission_is node_limit_is input_is)
+    (settings_made g c.in_ok-limit_order.limit_order c.in_ok-cut_off.cut_off c.in_ok-mission.mission c.in_ok-node_limit.node_limit c.in_ok-input.input none_excluded limit_order_is cut_off_is mission_is node_limit_is input_is)
