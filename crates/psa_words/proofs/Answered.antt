@@ -1,18 +1,16 @@
 -- What the answer of a reading of words is, by what the parser made of them.
-use Rattle.std.proofs.Common.{◌≡◌, ◌∙◌, refl, ap, List, [], ◌∷◌, Option, Some, None, Result, Ok, Err, map, Global}
-use Rattle.std.specs.Prelude.{option_and_then}
+use Rattle.std.proofs.Common.{◌≡◌, refl, List, [], ◌∷◌, Result, Err, map, Global}
 use Rattle.std.specs.declared.string.String.{String}
 use Rattle.std.specs.String.{string_bytes}
 use Rattle.std.proofs.lemmas.Str.{IsUtf8-string_bytes}
 use Rattle.clap.specs.Words.{fault_of, matches_of, rows_of}
 use Rattle.clap.specs.declared.parser.matches.Found.{Found}
-use Rattle.clap.specs.declared.parser.matches.ArgMatches.{ArgMatches}
 use Rattle.psa_model.specs.declared.settings.Settings.{Settings}
 use Rattle.psa_words.specs.declared.fault.WordsError.{WordsError}
 use Rattle.psa_words.specs.declared.fault.WordsError.TheVariants.{BadWords, Memory}
 use Rattle.psa_words.specs.Answer.{Answers}
 use Rattle.psa_words.specs.Reading.{Text}
-use Rattle.psa_words.specs.Given.{given_of, settings_from, settings_of}
+use Rattle.psa_words.specs.Given.{settings_from, settings_of}
 use Rattle.psa_words.specs.Found.{given_in}
 use Rattle.psa_words.specs.Scram.{scram}
 use Rattle.psa_words.proofs.Whole.{AllTexts}

@@ -1,20 +1,19 @@
 -- What the parser finds is what the words give.
-use Rattle.std.proofs.Common.{◌≡◌, ◌∙◌, refl, sym, ap, ap₂, subst, ℕ, Bool, true, false, List, [], ◌∷◌, ◌++◌, Option, Some, None, cond, fold, is_some, inl, inr, codes}
-use Rattle.std.specs.Prelude.{option_map, option_and_then, ◌&&◌, ◌||◌, not, unwrap_or, map, slice_get}
+use Rattle.std.proofs.Common.{◌≡◌, ◌∙◌, refl, sym, ap, Bool, true, false, List, [], ◌∷◌, Option, Some, None, fold, is_some, inl, inr, codes}
+use Rattle.std.specs.Prelude.{option_map, option_and_then, not, unwrap_or, slice_get}
 use Rattle.std.specs.List.{find, list_any}
 use Rattle.std.specs.Str.{bytes_eq}
 use Rattle.std.specs.Cmp.Lexicographic.{bytes_decides}
 use Rattle.std.proofs.lemmas.Bool.{cases_Bool}
-use Rattle.clap.specs.Walk.{Row, Rule, all_of, first_of, with_default, rows_of, row_of, idle}
-use Rattle.clap.specs.Words.{first_value, matched_of, raw_values, fault_of, matches_of}
+use Rattle.clap.specs.Walk.{Row, first_of, with_default, rows_of, row_of, idle}
+use Rattle.clap.specs.Words.{first_value, matched_of, fault_of, matches_of}
 use Rattle.clap.specs.Kinds.{Kinds}
 use Rattle.clap.specs.Facts.{Entry}
 use Rattle.clap.proofs.WalkLemmas.{find_row, first_value-rows, raw_values-rows}
 use Rattle.clap.specs.declared.parser.matches.Found.{Found}
-use Rattle.clap.specs.declared.parser.matches.ValueSource.{ValueSource}
 use Rattle.psa_words.specs.Reading.{Text, Item, flag, valued, file, read, between}
-use Rattle.psa_words.specs.Options.{Setting, name_of, takes_value, options, setting_of_long, every_setting, bdd, zbdd, prime_implicants, rare_event, mcub, ccf, validate, limit_order, cut_off, mission_time, node_limit, sample}
-use Rattle.psa_words.specs.Given.{Given, given_by, given_of, is_same, is_use_of, item_value, value_in, files_in, has_option, has_repeat}
+use Rattle.psa_words.specs.Options.{Setting, name_of, takes_value, options, setting_of_long, bdd, zbdd, prime_implicants, rare_event, mcub, ccf, validate, limit_order, cut_off, mission_time, node_limit, sample}
+use Rattle.psa_words.specs.Given.{given_by, given_of, is_same, is_use_of, item_value, value_in, files_in, has_option, has_repeat}
 use Rattle.psa_words.specs.Found.{given_in, is_command_line, is_given, names_in}
 use Rattle.psa_words.specs.Scram.{scram}
 use Rattle.psa_words.proofs.Turns.{Agrees, at, end_rows, judged, taken}

@@ -1,18 +1,18 @@
 -- The command of this program fits its table of options.
-use Rattle.std.proofs.Common.{◌≡◌, ◌∙◌, refl, sym, ap, subst, ℕ, ◌≤◌, Bool, true, false, List, [], ◌∷◌, ◌++◌, Option, Some, None, cond, arith, inl, inr, is_some, fold}
+use Rattle.std.proofs.Common.{◌≡◌, ◌∙◌, refl, sym, ℕ, ◌≤◌, Bool, true, false, List, [], ◌∷◌, ◌++◌, Option, Some, None, cond, arith, inl, inr, is_some, fold}
 use Rattle.std.specs.Prelude.{option_map, map, ◌==◌, ◌&&◌, ◌||◌, not}
 use Rattle.std.specs.List.{find}
 use Rattle.std.specs.Str.{bytes_eq}
 use Rattle.std.proofs.lemmas.Bool.{cases_Bool, eqb-false, eqb-true, ne_eqb}
-use Rattle.clap.specs.Walk.{Held, finished, has_row, nothing_held, settled, walk, idle, with_default, Row, Rule, arg_by_id, arg_by_index, arg_by_long, arg_by_short, takes_values, most_values, takes_several, is_multiple, is_empty, has_long, has_short}
-use Rattle.clap.specs.Simple.{matches_of, App, Shape, built, filled, with_index, is_simple}
-use Rattle.clap.specs.Faults.{check_fault, defaults_fault, given_default_fault, level_fault, settle_fault, repeat_fault, use_fault, fault_of, is_simple_and_free}
+use Rattle.clap.specs.Walk.{Held, finished, has_row, nothing_held, settled, walk, idle, with_default, Row, Rule, arg_by_id, arg_by_index, arg_by_long, arg_by_short, takes_values, most_values, takes_several, is_multiple, is_empty, has_long}
+use Rattle.clap.specs.Simple.{matches_of, Shape, built, filled, with_index}
+use Rattle.clap.specs.Faults.{check_fault, defaults_fault, given_default_fault, level_fault, settle_fault, repeat_fault, use_fault, fault_of}
 use Rattle.clap.specs.Kinds.{Kinds}
 use Rattle.clap.proofs.FaultLemmas.{leaf_fault}
 use Rattle.clap.specs.declared.error.kind.ErrorKind.TheVariants as kind
-use Rattle.psa_words.specs.Reading.{Text, Table, read, between}
-use Rattle.psa_words.specs.Options.{Setting, bdd, zbdd, prime_implicants, rare_event, mcub, ccf, validate, limit_order, cut_off, mission_time, node_limit, sample, every_setting, name_of, options, setting_of_long, setting_of_short, takes_value}
-use Rattle.psa_words.specs.Scram.{scram, scram_shape, option_rule, file_rule}
+use Rattle.psa_words.specs.Reading.{Text, read, between}
+use Rattle.psa_words.specs.Options.{Setting, bdd, zbdd, prime_implicants, rare_event, mcub, ccf, validate, limit_order, cut_off, mission_time, node_limit, sample, every_setting, name_of, options}
+use Rattle.psa_words.specs.Scram.{scram, option_rule, file_rule}
 use Rattle.psa_words.proofs.Turns.{Agrees, Fits, at, end_rows, faults, judged, or_false, or_nothing}
 use Rattle.psa_words.proofs.Whole.{AllTexts, words_agree}
 

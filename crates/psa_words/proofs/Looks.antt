@@ -1,11 +1,11 @@
 -- What a word looks like, by the parser's lexical words.
-use Rattle.std.proofs.Common.{◌≡◌, refl, ap, ℕ, Bool, true, false, List, [], ◌∷◌, Option, Some, None, cond}
-use Rattle.std.specs.Prelude.{◌==◌, ◌&&◌}
+use Rattle.std.proofs.Common.{◌≡◌, refl, ap, Bool, true, false, [], ◌∷◌, Some, None, cond}
+use Rattle.std.specs.Prelude.{◌==◌}
 use Rattle.std.specs.Str.{bytes_eq}
 use Rattle.std.proofs.lemmas.Bool.{cond_both, eqb-true}
 use Rattle.clap.specs.Lexer.{long_of, short_of}
 use Rattle.clap.specs.Walk.{attached_value}
-use Rattle.psa_words.specs.Reading.{Text, Look, dashes, long, short, plain, look_of, long_look, value_behind, value_after_equals}
+use Rattle.psa_words.specs.Reading.{Text, Look, dashes, long, short, plain, look_of, long_look, value_behind}
 
 abbrev pub two_hyphens : Text
 two_hyphens = 45 ∷ 45 ∷ []

@@ -1,12 +1,12 @@
 -- What the parser's rows hold, by the items that were read.
-use Rattle.std.proofs.Common.{◌≡◌, ◌∙◌, refl, sym, ap, ap₂, subst, ℕ, Bool, true, false, List, [], ◌∷◌, ◌++◌, Option, Some, None, cond, fold, is_some, inl, inr, codes, append-nil, append_assoc, length, arith}
-use Rattle.std.specs.Prelude.{option_map, option_and_then, ◌&&◌, ◌||◌, not, unwrap_or, map}
+use Rattle.std.proofs.Common.{◌≡◌, ◌∙◌, refl, sym, ap, ap₂, Bool, true, false, List, [], ◌∷◌, ◌++◌, Option, Some, None, cond, fold, is_some, inl, inr, codes, append-nil, append_assoc, length, arith}
+use Rattle.std.specs.Prelude.{option_map, ◌&&◌, ◌||◌, not, unwrap_or}
 use Rattle.std.specs.List.{find, list_any}
 use Rattle.std.specs.Option.{option_map_or}
 use Rattle.std.specs.Str.{bytes_eq}
 use Rattle.std.specs.Cmp.Lexicographic.{bytes_decides}
-use Rattle.std.proofs.lemmas.Bool.{cases_Bool, cond_both, false_from_ne_true, ne_eqb, or_parts, true≢false}
-use Rattle.clap.specs.Walk.{Row, Rule, all_of, at_row, default_rows, first_of, has_row, is_empty, more_values, reading_by, used, with_default, with_values, without}
+use Rattle.std.proofs.lemmas.Bool.{cases_Bool, false_from_ne_true, ne_eqb, or_parts, true≢false}
+use Rattle.clap.specs.Walk.{Row, Rule, all_of, default_rows, has_row, is_empty, reading_by, used, with_default, with_values, without}
 use Rattle.clap.specs.Kinds.{Kinds}
 use Rattle.clap.specs.Faults.{repeat_fault}
 use Rattle.clap.specs.declared.builder.value_parser.Reading.{Reading}
@@ -14,7 +14,7 @@ use Rattle.clap.specs.declared.parser.matches.ValueSource.{ValueSource}
 use Rattle.clap.specs.declared.parser.matches.ValueSource.TheVariants.{DefaultValue, CommandLine}
 use Rattle.clap.specs.declared.error.kind.ErrorKind.TheVariants as kind
 use Rattle.psa_words.specs.Reading.{Text, Item, flag, valued, file}
-use Rattle.psa_words.specs.Options.{Setting, name_of, every_setting, bdd, zbdd, prime_implicants, rare_event, mcub, ccf, validate, limit_order, cut_off, mission_time, node_limit, sample}
+use Rattle.psa_words.specs.Options.{Setting, name_of, bdd}
 use Rattle.psa_words.specs.Given.{is_same, is_use_of, item_setting, files_in, has_option, has_repeat}
 use Rattle.psa_words.proofs.Turns.{item_fault, item_rows, taken, taken_next}
 use Rattle.psa_words.proofs.Instance.{built_option, built_file}

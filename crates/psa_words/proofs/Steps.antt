@@ -1,13 +1,13 @@
 -- The settings, one value after another.
 use Rattle.psa_words.specs.Reading.{Text}
-use Rattle.std.proofs.Common.{subst, List, ◌≡◌, ◌∙◌, refl, ap, ℕ, Bool, true, false, Option, Some, None, Result, Ok, Err, ◌^◌}
+use Rattle.std.proofs.Common.{subst, List, ◌≡◌, ◌∙◌, refl, ℕ, true, false, Option, Some, None, Result, Err, ◌^◌}
 use Rattle.psa_number.specs.Scaled.{Scaled}
 use Rattle.psa_model.specs.declared.settings.Input.{Input}
 use Rattle.psa_model.specs.declared.settings.Settings.{Settings}
 use Rattle.psa_words.specs.declared.fault.WordsError.{WordsError}
 use Rattle.psa_words.specs.declared.fault.WordsError.TheVariants.{BadWords, Memory}
 use Rattle.psa_words.specs.Answer.{Answers}
-use Rattle.psa_words.specs.Given.{Given, ◌>>=◌, decimal_that, default_mission, excludes, input_of, is_fraction, is_not_below_zero, optional_value, settings_from, settings_with, value_or, values_of, whole_between}
+use Rattle.psa_words.specs.Given.{Given, decimal_that, default_mission, excludes, input_of, is_fraction, is_not_below_zero, optional_value, settings_from, settings_with, value_or, values_of, whole_between}
 
 abbrev pub limit_of : Given → Option ℕ
 limit_of given = value_or 20 (whole_between 1 32) given.limit_order_text

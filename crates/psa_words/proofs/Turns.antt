@@ -1,13 +1,13 @@
 -- What the parser makes of one word: where its walk stands after it, and whether it refuses it.
-use Rattle.std.proofs.Common.{◌≡◌, ◌∙◌, refl, sym, ap, subst, ℕ, Bool, true, false, List, [], ◌∷◌, ◌++◌, Option, Some, None, is_some, length, fold, ap₂, ◌≤◌, inl, inr}
+use Rattle.std.proofs.Common.{◌≡◌, ◌∙◌, refl, sym, ap, ℕ, Bool, true, false, List, [], ◌∷◌, Option, Some, None, length, fold, ap₂, ◌≤◌, inl, inr}
 use Rattle.std.specs.Prelude.{option_map, ◌&&◌, ◌||◌, slice_get, drop, encode_utf8}
 use Rattle.std.proofs.lemmas.Bool.{and_right, cases_lt}
 use Rattle.std.specs.Str.{bytes_eq, chars}
 use Rattle.clap.specs.Lexer.{long_of, short_of}
-use Rattle.clap.specs.Walk.{is_pending, next, option_met, bundle_met, Outcome, after_flag, after_step, long_met, trailing, word_met, Held, Row, Rule, Waiting, idle, option, positional, Walk, arg_by_id, arg_by_index, arg_by_long, arg_by_short, is_multiple, most_values, plain_word, settled, settled_rows, subcommand_met, takes_several, takes_values, used, value, walked, Step}
+use Rattle.clap.specs.Walk.{is_pending, next, option_met, bundle_met, after_flag, after_step, trailing, word_met, Held, Row, Rule, Waiting, idle, option, positional, Walk, arg_by_id, arg_by_index, arg_by_long, arg_by_short, is_multiple, most_values, settled, settled_rows, subcommand_met, takes_several, takes_values, used, value, walked, Step}
 use Rattle.clap.specs.Simple.{Shape}
 use Rattle.clap.specs.declared.error.kind.ErrorKind.{ErrorKind}
-use Rattle.clap.specs.Faults.{flags_fault, option_fault, long_fault, step_fault, repeat_fault, settle_fault, turn_fault, use_fault, walk_fault, word_fault}
+use Rattle.clap.specs.Faults.{flags_fault, option_fault, step_fault, repeat_fault, settle_fault, turn_fault, use_fault, walk_fault, word_fault}
 use Rattle.clap.specs.Kinds.{Kinds, or_else}
 use Rattle.clap.specs.declared.error.kind.ErrorKind.TheVariants as kind
 use Rattle.psa_words.proofs.Firsts.{IsFirst}

@@ -1,16 +1,16 @@
 -- The reading of the words from the left is the parser's walk over them.
-use Rattle.std.proofs.Common.{◌≡◌, ◌∙◌, refl, sym, ap, subst, ℕ, Bool, true, false, List, [], ◌∷◌, Option, Some, None, inl, inr}
+use Rattle.std.proofs.Common.{◌≡◌, ◌∙◌, refl, sym, subst, ℕ, Bool, true, false, List, [], ◌∷◌, Option, Some, None, inl, inr}
 use Rattle.std.proofs.lemmas.Bool.{cases_Bool}
 use Rattle.std.specs.Prelude.{option_map}
 use Rattle.std.specs.Str.{bytes_eq, IsUtf8}
 use Rattle.clap.specs.Lexer.{long_of, short_of}
-use Rattle.clap.specs.Walk.{Held, Row, Rule, Waiting, idle, option as waits, positional, Walk, next as goes_on, Step, arg_by_id, most_values, plain_word, settled_rows, used, value, word_met}
+use Rattle.clap.specs.Walk.{Held, Row, Rule, Waiting, idle, option as waits, positional, Walk, next as goes_on, plain_word, settled_rows, used, value}
 use Rattle.clap.specs.Simple.{Shape}
-use Rattle.clap.specs.Faults.{option_fault, repeat_fault, settle_fault, turn_fault, use_fault, walk_fault, word_fault}
+use Rattle.clap.specs.Faults.{option_fault, walk_fault}
 use Rattle.clap.specs.Kinds.{Kinds, or_else}
 use Rattle.clap.specs.declared.error.kind.ErrorKind.{ErrorKind}
 use Rattle.clap.specs.declared.error.kind.ErrorKind.TheVariants as kind
-use Rattle.psa_words.specs.Reading.{read_option, read_if_known, read_value, read_between, Text, Table, Item, flag, valued, file, Look, dashes, long, short, plain, look_of, read, Place, between, before_value, after_dashes, value_behind}
+use Rattle.psa_words.specs.Reading.{read_option, read_if_known, read_value, read_between, Text, Table, Item, flag, valued, file, Look, dashes, long, short, plain, look_of, read, between, before_value, after_dashes, value_behind}
 use Rattle.psa_words.proofs.Looks.{IsLook, looks, two_hyphens}
 use Rattle.psa_words.proofs.Firsts.{IsFirst, first_char, after_hyphen}
 use Rattle.psa_words.proofs.Turns.{Agrees, Fits, Means, Pending, Turn, agrees_next, at, no_sub, turn_from, or_else_assoc, end_rows, faults, goes, holding, item_fault, item_rows, judged, judged_item, settling, stops, taken, taken_next, turn_dashes, turn_file, turn_flag, turn_valued, turn_waits, word_stops, long_means, long_unknown, flag_with_value, short_means, short_unknown}

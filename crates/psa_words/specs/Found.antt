@@ -5,7 +5,7 @@ use Rattle.clap.specs.declared.parser.matches.Found.{Found}
 use Rattle.clap.specs.declared.parser.matches.ValueSource.{ValueSource}
 use Rattle.clap.specs.declared.parser.matches.ValueSource.TheVariants.{DefaultValue, CommandLine}
 use Rattle.psa_words.specs.Reading.{Text}
-use Rattle.psa_words.specs.Options.{Setting, name_of, bdd, zbdd, prime_implicants, rare_event, mcub, ccf, validate, limit_order, cut_off, mission_time, node_limit, sample}
+use Rattle.psa_words.specs.Options.{name_of, bdd, zbdd, prime_implicants, rare_event, mcub, ccf, validate, limit_order, cut_off, mission_time, node_limit, sample}
 use Rattle.psa_words.specs.Given.{Given}
 
 abbrev pub is_command_line : Option ValueSource → Bool

@@ -1,5 +1,5 @@
 -- What the words of a command line give, by option, and the settings that they ask for. This project's own.
-use Rattle.std.specs.Prelude.{ℕ, ◌==◌, ◌&&◌, ◌||◌, ◌^◌, Bool, true, false, not, List, [], ◌∷◌, Option, Some, None, length, nat_le, nat_lt, if◌then◌else◌, option_map, option_and_then, pos}
+use Rattle.std.specs.Prelude.{ℕ, ◌==◌, ◌&&◌, ◌||◌, ◌^◌, Bool, false, not, List, [], ◌∷◌, Option, Some, None, length, nat_le, if◌then◌else◌, option_map, option_and_then, pos}
 use Rattle.std.specs.List.{find, list_all, list_any}
 use Rattle.std.specs.Option.{option_map_or}
 use Rattle.std.specs.Result.{result_ok}
@@ -8,9 +8,7 @@ use Rattle.std.specs.Char.{is_ascii_digit}
 use Rattle.std.specs.Str.Parse.{digits_value}
 use Rattle.psa_number.specs.Scaled.{Scaled}
 use Rattle.psa_number.specs.DecimalText.{decimal_of, is_within}
-use Rattle.psa_model.specs.declared.settings.Algorithm.{Algorithm}
 use Rattle.psa_model.specs.declared.settings.Algorithm.TheVariants.{Bdd, Zbdd}
-use Rattle.psa_model.specs.declared.settings.Mode.{Mode}
 use Rattle.psa_model.specs.declared.settings.Mode.TheVariants.{CutSets, Primes}
 use Rattle.psa_model.specs.declared.settings.Input.{Input}
 use Rattle.psa_model.specs.declared.settings.Input.TheVariants.{Files, Sample}

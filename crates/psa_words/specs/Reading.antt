@@ -1,6 +1,6 @@
 -- The reading of the words of a command line from the left, over a table of options. This project's own; the look
 -- of options is that of the GNU command line conventions.
-use Rattle.std.specs.Prelude.{ℕ, ◌==◌, Bool, true, false, List, [], ◌∷◌, Option, Some, None, if◌then◌else◌, option_map}
+use Rattle.std.specs.Prelude.{ℕ, ◌==◌, Bool, List, [], ◌∷◌, Option, Some, None, if◌then◌else◌, option_map}
 use Rattle.std.specs.List.{list_any, before_first, after_first}
 
 abbrev pub Text : Type 0

@@ -1,4 +1,4 @@
-use Rattle.std.proofs.Common.{◌≡◌, ◌∙◌, refl, sym, ap, false, true, Option, Some, None, ◌^◌}
+use Rattle.std.proofs.Common.{◌≡◌, ◌∙◌, sym, ap, false, Some, ◌^◌}
 use Rattle.std.proofs.lemmas.Result.{err_from_is_err_and}
 use Rattle.clap.specs.Words.{found_of}
 use Rattle.psa_words.specs.Given.{Given, decimal_that, default_mission, excludes, is_fraction, is_not_below_zero, optional_value, value_or, whole_between}
