@@ -1,0 +1,11 @@
+pub mod Looks
+pub mod Firsts
+pub mod Turns
+pub mod Whole
+pub mod Instance
+pub mod Scrams
+pub mod Rows
+pub mod Ends
+pub mod Numbers
+pub mod Steps
+pub mod Answered

@@ -1,0 +1,63 @@
+-- The options of the program. The names are SCRAM's, except --node-limit and --sample, which are this project's own.
+use Rattle.std.specs.Prelude.{ℕ, ◌==◌, Bool, true, false, List, [], ◌∷◌, Option, Some, None, if◌then◌else◌, codes}
+use Rattle.std.specs.List.{find}
+use Rattle.std.specs.Str.{bytes_eq}
+use Rattle.psa_words.specs.Reading.{Table, Text}
+
+pub data Setting : Type 0 where
+  bdd : Setting
+  zbdd : Setting
+  prime_implicants : Setting
+  rare_event : Setting
+  mcub : Setting
+  ccf : Setting
+  validate : Setting
+  limit_order : Setting
+  cut_off : Setting
+  mission_time : Setting
+  node_limit : Setting
+  sample : Setting
+
+abbrev pub every_setting : List Setting
+every_setting =
+    bdd ∷ zbdd ∷ prime_implicants ∷ rare_event ∷ mcub ∷ ccf ∷ validate
+    ∷ limit_order ∷ cut_off ∷ mission_time ∷ node_limit ∷ sample ∷ []
+
+-- the name behind `--`
+abbrev pub name_of : Setting → Text
+name_of bdd = codes "bdd"
+name_of zbdd = codes "zbdd"
+name_of prime_implicants = codes "prime-implicants"
+name_of rare_event = codes "rare-event"
+name_of mcub = codes "mcub"
+name_of ccf = codes "ccf"
+name_of validate = codes "validate"
+name_of limit_order = codes "limit-order"
+name_of cut_off = codes "cut-off"
+name_of mission_time = codes "mission-time"
+name_of node_limit = codes "node-limit"
+name_of sample = codes "sample"
+
+abbrev pub takes_value : Setting → Bool
+takes_value bdd = false
+takes_value zbdd = false
+takes_value prime_implicants = false
+takes_value rare_event = false
+takes_value mcub = false
+takes_value ccf = false
+takes_value validate = false
+takes_value limit_order = true
+takes_value cut_off = true
+takes_value mission_time = true
+takes_value node_limit = true
+takes_value sample = true
+
+-- `-l` (108) is --limit-order
+abbrev pub setting_of_short : ℕ → Option Setting
+setting_of_short byte = if byte == 108 then Some limit_order else None
+
+abbrev pub setting_of_long : Text → Option Setting
+setting_of_long name = find (λ setting. bytes_eq (name_of setting) name) every_setting
+
+unfoldable pub options : Table Setting
+options = record { long_name = setting_of_long; short_name = setting_of_short; takes_value = takes_value }
