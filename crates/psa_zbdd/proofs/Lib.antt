@@ -1,0 +1,6 @@
+pub mod Members
+pub mod Splits
+pub mod Levels
+pub mod Results
+pub mod Tails
+pub mod UnionSteps
