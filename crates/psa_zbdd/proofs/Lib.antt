@@ -4,3 +4,5 @@ pub mod Levels
 pub mod Results
 pub mod Tails
 pub mod UnionSteps
+pub mod Spared
+pub mod DifferenceSteps
