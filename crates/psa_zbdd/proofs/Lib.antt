@@ -6,3 +6,8 @@ pub mod Tails
 pub mod UnionSteps
 pub mod Spared
 pub mod DifferenceSteps
+pub mod Positive
+pub mod Decompose
+pub mod Cofactored
+pub mod CutSteps
+pub mod Ends
