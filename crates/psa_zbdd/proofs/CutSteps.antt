@@ -1,5 +1,5 @@
 -- The steps of the recursion of the minimal cut sets.
-use Rattle.std.proofs.Common.{◌≡◌, ◌↔◌, ℕ, zero, ◌+◌, ◌-◌, ◌*◌, ◌^◌, ◌<◌, ◌≤◌, Bool, true, false, List, [], ◌∷◌, Some, Result, Ok, if◌then◌else◌, refl, sym, ap, subst, ◌∙◌, inl, inr, arith}
+use Rattle.std.proofs.Common.{◌≡◌, ◌↔◌, ℕ, ◌+◌, ◌-◌, ◌*◌, ◌^◌, ◌<◌, ◌≤◌, Bool, true, false, List, Some, Result, Ok, if◌then◌else◌, refl, sym, ap, subst, ◌∙◌, inl, inr, arith}
 use Rattle.std.proofs.lemmas.Bool.{false≢true}
 use Rattle.psa_logic.specs.Products.{IsCutProduct}
 use Rattle.psa_nodes.specs.declared.node.Kind.{Kind}
@@ -14,13 +14,13 @@ use Rattle.psa_nodes.specs.Nodes.{AllFit, Grown}
 use Rattle.psa_nodes.specs.Families.{Spares}
 use Rattle.psa_nodes.specs.Table.{Table, Lacks}
 use Rattle.psa_nodes.specs.Progress.{IsCall, IsResult, key_level}
-use Rattle.psa_nodes.proofs.CallerLemmas.{At, at, stands-below, stands-kept, stands-weaker, stands-terminal, stands-at, stands-node, level-node, level-stands, node_at-kept, truth-kept, truth-agree, truth-terminal, blind-stands, fixed, high-cofactor, low-cofactor, has-zero, grown-own, grown-then, call-then, call-wide, progress-lacks}
-use Rattle.psa_zbdd.specs.Tails.{IsTails, tail_from}
+use Rattle.psa_nodes.proofs.CallerLemmas.{At, at, stands-below, stands-kept, stands-weaker, stands-terminal, stands-at, stands-node, level-node, level-stands, node_at-kept, truth-kept, truth-agree, blind-stands, fixed, high-cofactor, low-cofactor, has-zero, grown-own, call-then, call-wide, progress-lacks}
+use Rattle.psa_zbdd.specs.Tails.{IsTails}
 use Rattle.psa_zbdd.specs.Sides.{pair_level, IsReady}
 use Rattle.psa_zbdd.specs.CutSets.{IsCutTail, IsCutTails, AreRanksSmall}
 use Rattle.psa_zbdd.proofs.Members.{stands-above}
 use Rattle.psa_zbdd.proofs.Levels.{pair-past}
-use Rattle.psa_zbdd.proofs.Results.{is_result, result-kept}
+use Rattle.psa_zbdd.proofs.Results.{result-kept}
 use Rattle.psa_zbdd.proofs.Positive.{DependsFrom, cuts-above}
 use Rattle.psa_zbdd.proofs.Decompose.{cut-sides}
 use Rattle.psa_zbdd.proofs.Cofactored.{own-cut, side-cut, cut-tails, member-tails}

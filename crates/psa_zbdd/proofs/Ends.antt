@@ -1,5 +1,5 @@
 -- The minimal cut sets of the terminals: none where the truth is false, the empty set where it is true.
-use Rattle.std.proofs.Common.{◌≡◌, ℕ, ◌+◌, ◌<◌, Bool, true, false, ◌==◌, ◌&&◌, List, [], ◌∷◌, length, refl, sym, ap, subst, ◌∙◌, arith, ne_eqb}
+use Rattle.std.proofs.Common.{◌≡◌, ℕ, ◌+◌, ◌<◌, true, false, ◌==◌, ◌&&◌, List, [], ◌∷◌, length, refl, sym, ap, subst, ◌∙◌, arith, ne_eqb}
 use Rattle.std.proofs.lemmas.Bool.{false≢true, and_parts, and_from}
 use Rattle.psa_logic.specs.Sets.{is_part, occurs}
 use Rattle.psa_logic.specs.Products.{positive_product, IsCutProduct}
@@ -7,7 +7,7 @@ use Rattle.psa_logic.proofs.Parts.{part-nil}
 use Rattle.psa_nodes.specs.declared.node.Kind.TheVariants.{Zbdd}
 use Rattle.psa_nodes.specs.declared.node.Node.{Node}
 use Rattle.psa_nodes.specs.declared.node.Operation.TheVariants.{MinimalOfBdd}
-use Rattle.psa_nodes.specs.Readings.{truth, has, is_empty, stands}
+use Rattle.psa_nodes.specs.Readings.{truth, has, is_empty}
 use Rattle.psa_nodes.specs.Nodes.{AllFit}
 use Rattle.psa_nodes.specs.Progress.{IsResult}
 use Rattle.psa_nodes.proofs.CallerLemmas.{stands-terminal, truth-terminal}

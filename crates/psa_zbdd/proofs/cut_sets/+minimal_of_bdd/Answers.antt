@@ -2,7 +2,7 @@ use Rattle.std.proofs.Common.{ℕ, ◌^◌, ◌<◌, ◌-◌, ◌≤◌, ◌+◌
 use Rattle.std.proofs.lemmas.Result.{err_from_is_err_and}
 use Rattle.psa_nodes.specs.declared.node.Kind.TheVariants.{Bdd}
 use Rattle.psa_nodes.specs.Readings.{level}
-use Rattle.psa_nodes.proofs.CallerLemmas.{call-same, grown-own, some-inner, stands-at}
+use Rattle.psa_nodes.proofs.CallerLemmas.{grown-own, some-inner, stands-at}
 use Rattle.psa_zbdd.proofs.Results.{remembered-result}
 use Rattle.psa_zbdd.proofs.Ends.{terminal-cuts}
 use Rattle.psa_zbdd.proofs.CutSteps.{cut_key, ranks-kept, old_level, past_hi, past_lo, hi_zero, lo_zero, low-exit, zero-ready, zero-absent, zero-call, high-exit, less_operands, less-exit, ready, absent, whole-call}
