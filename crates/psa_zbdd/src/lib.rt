@@ -11,3 +11,6 @@ mod unions;
 pub use cut_sets::minimal_of_bdd;
 pub use differences::without;
 pub use unions::union;
+
+#[cfg(test)]
+mod tests;
