@@ -1,0 +1,13 @@
+pub mod Members
+pub mod Splits
+pub mod Levels
+pub mod Results
+pub mod Tails
+pub mod UnionSteps
+pub mod Spared
+pub mod DifferenceSteps
+pub mod Positive
+pub mod Decompose
+pub mod Cofactored
+pub mod CutSteps
+pub mod Ends
