@@ -3,4 +3,3 @@ pub mod Positive
 pub mod Widths
 pub mod Few
 pub mod Sections
-pub mod Outcomes

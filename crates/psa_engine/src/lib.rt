@@ -10,6 +10,7 @@ mod status;
 mod telling;
 mod words;
 
+pub use psa_words::{WordsError, read_words};
 pub use run::analyse_words;
 pub use status::Status;
 
