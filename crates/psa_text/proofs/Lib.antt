@@ -14,5 +14,6 @@ mod ScannerReadings
 mod ScannerFaults
 mod ScannerScans
 mod ScannerEnds
+mod ScannerFronts
+mod ScannerSpans
 mod ScannerFeeds
-mod ScannerQuiets

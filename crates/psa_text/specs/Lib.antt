@@ -12,5 +12,5 @@ pub mod ScannerMachine
 pub mod ScannerView
 pub mod ScannerNesting
 pub mod ScannerBounds
-pub mod ScannerQuiet
 pub mod ScannerState
+pub mod ScannerSpans

@@ -145,11 +145,3 @@ begins_tag _ b = false
 abbrev pub is_between : Lex → Bool
 is_between Between = true
 is_between _ = false
-
-abbrev pub is_in_comment : Lex → Bool
-is_in_comment InComment = true
-is_in_comment _ = false
-
-abbrev pub is_in_instruction : Lex → Bool
-is_in_instruction InInstruction = true
-is_in_instruction _ = false

@@ -17,8 +17,6 @@ use Rattle.psa_text.specs.TextFaults.{begins_element, fault, NoFault, FirstFault
 use Rattle.psa_text.specs.ScannerMachine as machine
 use Rattle.psa_text.specs.ScannerView.{lex_of, Judged, IsBad, IsLong, On, Done, judge}
 use Rattle.psa_text.specs.ScannerNesting.{nest}
-use Rattle.psa_text.specs.declared.scanner_quiet.Quiet.{Quiet}
-use Rattle.psa_text.specs.ScannerQuiet.{quiet_at}
 
 -- what a scanner stands at: its byte order mark; how many bytes it has read; the line of the next; the line of the
 -- first byte of the item under way or next; how many elements have begun; where in an item; the open elements
@@ -97,10 +95,6 @@ pub record Passes (b : ℕ) (old now : Scanner) : Type 0 where
   pub scan : scan_of now ≡ record (scan_of old) { mark = Passed; count = old.count + 1; line = line_on old.line b }
   pub failed : now.failed ≡ old.failed
 
-pub record Counts (b : ℕ) (old now : Scanner) : Type 0 where
-  pub scan : scan_of now ≡ record (scan_of old) { count = old.count + 1; line = line_on old.line b }
-  pub failed : now.failed ≡ old.failed
-
 -- A step gives the scan after the byte or the fault, unless memory runs out.
 abbrev pub Steps : Result Scan TextFault → Scanner → Result (Unit {0}) TextError → Type 0
 Steps does now (Ok done) = (does ≡ Ok (scan_of now)) × (now.failed ≡ None)
@@ -119,15 +113,3 @@ abbrev pub Ends : List ℕ → Result Document TextError → Type 0
 Ends bytes (Ok document) = IsTree bytes document.root × NoFault bytes
 Ends bytes (Err (Fault found)) = EndsIn bytes found × NoFault bytes
 Ends bytes (Err Memory) = ⊥
-
--- the bytes that change nothing but the counts
-abbrev pub quiet_of : Scan → Quiet
-quiet_of s = quiet_at s.mark s.lex s.nest
-
--- such a byte is counted
-abbrev pub quieted : Scan → ℕ → Scan
-quieted s b = record s { count = s.count + 1; line = line_on s.line b; start = if machine.is_between s.lex then line_on s.line b else s.start }
-
-pub record Quiets (b : ℕ) (old now : Scanner) : Type 0 where
-  pub scan : scan_of now ≡ quieted (scan_of old) b
-  pub failed : now.failed ≡ old.failed

@@ -74,11 +74,18 @@ lex_at (place.Refer r) h = machine.Refer (inside_of h) (reference_at r h.number)
 lex_at place.Behind h = machine.Behind h.tag
 lex_at place.EndOpened h = machine.EndOpened
 lex_at place.EndName h = machine.EndName h.name
-lex_at place.EndGap h = machine.EndGap h.named
+lex_at place.EndGap h = machine.EndGap h.name
 
 -- the state of the machine
 abbrev pub lex_of : Held → machine.Lex
 lex_of h = lex_at h.place h
+
+-- a name is under way
+abbrev pub IsInName : Place → Type 0
+IsInName place.Name = Unit {0}
+IsInName place.AttributeName = Unit {0}
+IsInName place.EndName = Unit {0}
+IsInName _ = ⊥
 
 -- what the arrays and counts have room for, in a reference and at a place
 abbrev pub HasReferenceRoom : Reference → Held → Type 0

@@ -7,7 +7,7 @@ ghost use Rattle.psa_text.specs.Nesting.{at_start, closed, finished, is_too_deep
 use crate::scanner_bytes::is_blank;
 use crate::scanner_item::Item;
 use crate::token::{StepError, Tag, Token};
-use crate::{Element, Items, Text};
+use crate::{Element, Items};
 use std::alloc::Global;
 
 /// The deepest that an element may stand; the root stands at 1.
@@ -60,7 +60,7 @@ impl Builder {
         match token {
             Token::Start(tag) => self.open(alloc, tag, line),
             Token::Empty(tag) => self.open_and_close(alloc, tag, line),
-            Token::End(name) => self.close(name),
+            Token::End(name) => self.close(name.as_bytes()),
             Token::Passed => Ok(()),
         }
     }
@@ -72,7 +72,7 @@ impl Builder {
         match item {
             Item::Start(tag) => self.step(alloc, Token::Start(tag), line),
             Item::Empty(tag) => self.step(alloc, Token::Empty(tag), line),
-            Item::End(name) => self.step(alloc, Token::End(name), line),
+            Item::End(name) => self.close(name.as_bytes()),
             Item::Doctype if self.has_begun() => Err(StepError::Refused),
             Item::Text(byte) if !self.is_in_label() && !is_blank(byte) => Err(StepError::Refused),
             Item::Doctype | Item::Text(_) | Item::Comment | Item::Instruction => Ok(()),
@@ -129,13 +129,13 @@ impl Builder {
         self.place(new_element(alloc, tag, line))
     }
 
-    fn close(&mut self, name: Text) -> Result<(), StepError>
-        ensures { Gives (λ _. state_of self.new) result (closed name (state_of self.old)) }
+    fn close(&mut self, name: &[u8]) -> Result<(), StepError>
+        ensures { Gives (λ _. state_of self.new) result (closed name.now (state_of self.old)) }
     {
         let Some(element) = self.open_elements.pop() else {
             return Err(StepError::Refused);
         };
-        if element.tag.as_str() != name.as_str() {
+        if element.tag.as_bytes() != name {
             return Err(StepError::Refused);
         }
         self.place(element)

@@ -1,8 +1,10 @@
-ghost use Rattle.std.specs.Prelude.{◌≡◌, ◌++◌, ◌<◌, [], List, ℕ, None, Ok, Err, IfErr};
+ghost use Rattle.std.specs.Prelude.{◌≡◌, ◌++◌, ◌+◌, ◌<◌, ◌≤◌, [], List, ℕ, None, Ok, Err, IfErr, length};
 ghost use Rattle.psa_text.specs.declared.scanner_error.TextError.{TextError};
-ghost use Rattle.psa_text.specs.ScannerState.{Answers, Counts, Ends, HasFailed, HasRead, Passes, Quiets, Steps, item_stepped, marked, on_nested, quiet_of, scan_of, stepped};
+ghost use Rattle.psa_text.specs.declared.scanner_mark.Mark.{Mark};
+ghost use Rattle.psa_text.specs.ScannerSpans.{CountsAll, IsBehind, ReadsSpan, is_quiet};
+ghost use Rattle.psa_text.specs.ScannerState.{Answers, Ends, HasFailed, HasRead, Passes, Steps, item_stepped, marked, on_nested, scan_of, stepped};
 ghost use Rattle.psa_text.specs.ScannerMachine as machine;
-ghost use Rattle.psa_text.specs.ScannerNesting.{nest};
+ghost use Rattle.psa_text.specs.ScannerNesting.{in_label, nest};
 ghost use Rattle.psa_text.specs.ScannerView.{lex_of};
 ghost use Rattle.psa_text.specs.Nesting.{state_of};
 ghost use Rattle.psa_text.specs.TextFaults as faults;
@@ -13,7 +15,7 @@ use crate::scanner_error::{TextError, TextFault, TextKind};
 use crate::scanner_item::Item;
 use crate::scanner_lexer::{Lexer, TokenError};
 use crate::scanner_mark::Mark;
-use crate::scanner_quiet::Quiet;
+use crate::scanner_spans::{behind_blanks, from_first, line_ends};
 use crate::scanner_state::Scanner;
 use crate::token::StepError;
 use std::alloc::Global;
@@ -51,17 +53,13 @@ impl Scanner {
         if let Some(error) = self.failed {
             return Err(error);
         }
-        let mut quiet = self.quiet();
-        for byte in piece {
-            if quiet.passes(*byte) && self.count < MAX_BYTES {
-                self.pass_quiet(*byte);
-                continue;
-            }
+        let mut rest = piece;
+        while let [byte, behind @ ..] = self.read_span(rest) {
             if let Err(error) = self.step(*byte) {
                 self.failed = Some(error);
                 return Err(error);
             }
-            quiet = self.quiet();
+            rest = behind;
         }
         Ok(())
     }
@@ -83,34 +81,76 @@ impl Scanner {
         }
     }
 
-    /// The bytes that change nothing but the counts here.
-    fn quiet(&self) -> Quiet
-        ensures { result ≡ quiet_of (scan_of self.now) }
+    /// Reads in one go the bytes at the front that stay within the item under way, or are texts that change
+    /// nothing but the counts. Gives the bytes behind them.
+    fn read_span<'a>(&mut self, bytes: &'a [u8]) -> &'a [u8]
+        requires failed { self.old.failed ≡ None }
+        ensures read { ReadsSpan (scan_of self.old) bytes.now (scan_of self.new) result.now }
+        ensures failed { self.new.failed ≡ None }
     {
         if !matches!(self.mark, Mark::Passed) {
-            Quiet::Nothing
-        } else if self.lexer.is_in_comment() {
-            Quiet::AllBut(b'-')
-        } else if self.lexer.is_in_instruction() {
-            Quiet::AllBut(b'?')
-        } else if !self.lexer.is_between() {
-            Quiet::Nothing
-        } else if self.builder.is_in_label() {
-            Quiet::AllBut(b'<')
+            return bytes;
+        }
+        let room = (MAX_BYTES - self.count) as usize;
+        let (near, _) = bytes.split_at(bytes.len().min(room));
+        let rest = if self.lexer.is_between() {
+            self.read_texts(near)
         } else {
-            Quiet::Blanks
+            self.read_within(near)
+        };
+        bytes.split_at(near.len() - rest.len()).1
+    }
+
+    /// Reads in one go the texts at the front that change nothing but the counts.
+    fn read_texts<'a>(&mut self, bytes: &'a [u8]) -> &'a [u8]
+        requires failed { self.old.failed ≡ None }
+        requires mark { self.old.mark ≡ Mark.Passed }
+        requires between { lex_of self.old.lexer ≡ machine.Between }
+        requires room { self.old.count + length bytes.now ≤ 67108864 }
+        ensures read { ReadsSpan (scan_of self.old) bytes.now (scan_of self.new) result.now }
+        ensures failed { self.new.failed ≡ None }
+    {
+        let rest = self.behind_texts(bytes);
+        let (span, _) = bytes.split_at(bytes.len() - rest.len());
+        if !span.is_empty() {
+            self.count_bytes(span);
+            self.start = self.line;
+        }
+        rest
+    }
+
+    /// The bytes behind the texts at the front that change nothing but the counts.
+    fn behind_texts<'a>(&self, bytes: &'a [u8]) -> &'a [u8]
+        ensures { IsBehind (is_quiet (in_label (state_of self.now.builder).open_elements)) bytes.now result.now }
+    {
+        if self.builder.is_in_label() {
+            from_first(b'<', bytes)
+        } else {
+            behind_blanks(bytes)
         }
     }
 
-    /// Counts a byte that changes nothing else.
-    fn pass_quiet(&mut self, byte: u8)
-        requires { self.old.count < 67108864 }
-        ensures { Quiets byte self.old self.new }
+    /// Reads in one go the bytes at the front that stay within the item under way.
+    fn read_within<'a>(&mut self, bytes: &'a [u8]) -> &'a [u8]
+        requires failed { self.old.failed ≡ None }
+        requires mark { self.old.mark ≡ Mark.Passed }
+        requires room { self.old.count + length bytes.now ≤ 67108864 }
+        ensures read { ReadsSpan (scan_of self.old) bytes.now (scan_of self.new) result.now }
+        ensures failed { self.new.failed ≡ None }
     {
-        self.count_byte(byte);
-        if self.lexer.is_between() {
-            self.start = self.line;
-        }
+        let rest = self.lexer.read_span(bytes);
+        let (span, _) = bytes.split_at(bytes.len() - rest.len());
+        self.count_bytes(span);
+        rest
+    }
+
+    /// Counts bytes and their lines.
+    fn count_bytes(&mut self, bytes: &[u8])
+        requires { self.old.count + length bytes.now ≤ 67108864 }
+        ensures { CountsAll bytes.now self.old self.new }
+    {
+        self.count += bytes.len() as u32;
+        self.line += line_ends(bytes);
     }
 
     /// Reads one byte.
@@ -188,14 +228,6 @@ impl Scanner {
         ensures { Passes byte self.old self.new }
     {
         self.mark = Mark::Passed;
-        self.count_byte(byte);
-    }
-
-    /// Counts a byte and its line.
-    fn count_byte(&mut self, byte: u8)
-        requires { self.old.count < 67108864 }
-        ensures { Counts byte self.old self.new }
-    {
         self.count += 1;
         if byte == b'\n' {
             self.line += 1;

@@ -1,4 +1,5 @@
 ghost use Rattle.std.specs.Prelude.{◌≡◌, ◌+◌, ◌*◌, ◌^◌, ◌<◌, ◌≤◌};
+ghost use Rattle.std.specs.Str.{is_utf8};
 ghost use Rattle.psa_text.specs.TextBytes as spec;
 ghost use Rattle.psa_text.specs.ScannerView.{IsTextOf};
 
@@ -85,6 +86,16 @@ fn trimmed_end(mut bytes: &[u8]) -> &[u8]
         bytes = rest;
     }
     bytes
+}
+
+/// Whether the bytes are UTF-8.
+pub fn is_text(bytes: &[u8]) -> bool
+    ensures { result ≡ is_utf8 bytes.now }
+{
+    match simdutf8::compat::from_utf8(bytes) {
+        Ok(_) => true,
+        Err(_) => false,
+    }
 }
 
 /// The text of these bytes. Bad: they aren't UTF-8.

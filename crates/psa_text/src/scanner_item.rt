@@ -1,7 +1,7 @@
 ghost use Rattle.std.specs.Prelude.{◌≡◌};
 ghost use Rattle.psa_text.specs.TextFaults as faults;
 
-use crate::Text;
+use crate::scanner_name::Name;
 use crate::token::Tag;
 
 /// An item of a text (XML 1.0, productions 15, 16, 28 and 40 to 44).
@@ -12,7 +12,7 @@ pub enum Item {
     /// An empty-element tag: an element with nothing in it.
     Empty(Tag),
     /// An end tag, by its name.
-    End(Text),
+    End(Name),
     /// A document type declaration, without a subset.
     Doctype,
     /// One byte of character data.

@@ -4,14 +4,17 @@ ghost use Rattle.psa_text.specs.declared.scanner_place.Place.{Place};
 ghost use Rattle.psa_text.specs.declared.scanner_place.Place.TheVariants as place;
 ghost use Rattle.psa_text.specs.declared.scanner_place.Reference.TheVariants as refer;
 ghost use Rattle.psa_text.specs.ScannerMachine as machine;
-ghost use Rattle.psa_text.specs.ScannerView.{EndsNumber, EndsReference, EndsValue, Goes, HasReferenceRoom, PushesName, Refers, judge, judged, lex_of};
+ghost use Rattle.psa_text.specs.ScannerSpans.{ReadsWithin, Takes, is_turned};
+ghost use Rattle.psa_text.specs.ScannerView.{EndsNumber, EndsReference, EndsValue, Goes, HasReferenceRoom, IsInName, PushesName, Refers, judge, judged, lex_of};
 
 use crate::scanner_bytes::{
-    decimal_digit, hexadecimal_digit, is_blank, is_name_byte, is_name_start, text_of, trimmed,
-    with_digit,
+    decimal_digit, hexadecimal_digit, is_blank, is_name_byte, is_name_start, is_text, text_of,
+    trimmed, with_digit,
 };
 use crate::scanner_item::Item;
+use crate::scanner_name::Name;
 use crate::scanner_place::{Entity, Place, Reference};
+use crate::scanner_spans::from_first;
 use crate::token::Tag;
 use crate::{Attribute, Items, OutOfMemory, Text};
 use arrayvec::ArrayVec;
@@ -57,7 +60,7 @@ pub struct Lexer {
     name: ArrayVec<u8, 64>,
     /// The tag under way: its name, once that is whole, and its whole attributes.
     tag: Tag,
-    /// The name of the attribute or end tag under way, once that is whole.
+    /// The name of the attribute under way, once that is whole.
     named: Text,
     quote: u8,
     /// How many bytes of the value there are.
@@ -104,20 +107,6 @@ impl Lexer {
         matches!(self.place, Place::Between)
     }
 
-    /// Whether it stands among the bytes of a comment.
-    pub fn is_in_comment(&self) -> bool
-        ensures { result ≡ machine.is_in_comment (lex_of self.now) }
-    {
-        matches!(self.place, Place::Comment)
-    }
-
-    /// Whether it stands among the bytes of an instruction.
-    pub fn is_in_instruction(&self) -> bool
-        ensures { result ≡ machine.is_in_instruction (lex_of self.now) }
-    {
-        matches!(self.place, Place::Instruction)
-    }
-
     /// Whether the byte begins the name of a start or empty tag.
     pub fn begins_tag(&self, byte: u8) -> bool
         ensures { result ≡ machine.begins_tag (lex_of self.now) byte }
@@ -154,6 +143,73 @@ impl Lexer {
             Place::EndName => self.in_end_name(byte),
             Place::EndGap => self.end_on(byte),
         }
+    }
+
+    /// Reads in one go the bytes at the front that go on with the name, the value, the comment or the
+    /// instruction under way. Gives the bytes behind them.
+    pub fn read_span<'a>(&mut self, bytes: &'a [u8]) -> &'a [u8]
+        ensures { ReadsWithin (lex_of self.old) bytes.now (lex_of self.new) result.now }
+    {
+        match self.place {
+            Place::Name | Place::AttributeName | Place::EndName => self.read_name(bytes),
+            Place::Value => self.read_value(bytes),
+            Place::Comment => from_first(b'-', bytes),
+            Place::Instruction => from_first(b'?', bytes),
+            _ => bytes,
+        }
+    }
+
+    /// The further bytes of a name, as long as they fit.
+    fn read_name<'a>(&mut self, mut bytes: &'a [u8]) -> &'a [u8]
+        requires { IsInName self.old.place }
+        ensures { ReadsWithin (lex_of self.old) bytes.entry.now (lex_of self.new) result.now }
+    {
+        while let [byte, rest @ ..] = bytes {
+            if !self.takes_into_name(*byte) {
+                break;
+            }
+            bytes = rest;
+        }
+        bytes
+    }
+
+    /// One more byte of the name under way, where the byte goes on with it and fits. Tells whether it does.
+    fn takes_into_name(&mut self, byte: u8) -> bool
+        requires { IsInName self.old.place }
+        ensures { Takes byte self.old self.new result }
+    {
+        if !is_name_byte(byte) || self.name.is_full() {
+            return false;
+        }
+        self.name.push(byte);
+        true
+    }
+
+    /// The further bytes of a value that stand for themselves, as long as they fit.
+    fn read_value<'a>(&mut self, mut bytes: &'a [u8]) -> &'a [u8]
+        requires { self.old.place ≡ place.Value }
+        ensures { ReadsWithin (lex_of self.old) bytes.entry.now (lex_of self.new) result.now }
+    {
+        while let [byte, rest @ ..] = bytes {
+            if !self.takes_into_value(*byte) {
+                break;
+            }
+            bytes = rest;
+        }
+        bytes
+    }
+
+    /// One more byte of the value under way, where the byte stands for itself and fits. Tells whether it does.
+    fn takes_into_value(&mut self, byte: u8) -> bool
+        requires { self.old.place ≡ place.Value }
+        ensures { Takes byte self.old self.new result }
+    {
+        if byte == self.quote || is_turned(byte) || usize::from(self.count) >= MAX_VALUE {
+            return false;
+        }
+        self.count += 1;
+        self.value.push(byte);
+        true
     }
 
     fn between(&mut self, byte: u8) -> Result<Option<Item>, TokenError>
@@ -608,13 +664,15 @@ impl Lexer {
         if is_name_byte(byte) {
             return self.push_name(byte);
         }
-        self.named = text_of(self.alloc, &self.name)?;
+        if !is_text(&self.name) {
+            return Err(TokenError::Bad);
+        }
         self.end_on(byte)
     }
 
     /// Behind the name of an end tag.
     fn end_on(&mut self, byte: u8) -> Result<Option<Item>, TokenError>
-        ensures { Goes (judged (machine.end_on self.old.named byte)) self.new result }
+        ensures { Goes (judged (machine.end_on self.old.name byte)) self.new result }
     {
         if is_blank(byte) {
             self.place = Place::EndGap;
@@ -623,7 +681,7 @@ impl Lexer {
         if byte != b'>' {
             return Err(TokenError::Bad);
         }
-        let name = mem::replace(&mut self.named, Text::new(self.alloc));
+        let name = Name::new(mem::replace(&mut self.name, ArrayVec::new()));
         Ok(Some(self.end(Item::End(name))))
     }
 
@@ -635,6 +693,13 @@ impl Lexer {
         self.place = Place::Between;
         item
     }
+}
+
+/// A byte that a value does not hold as it stands, or that does not stand in it.
+fn is_turned(byte: u8) -> bool
+    ensures { result ≡ is_turned byte }
+{
+    matches!(byte, b'<' | b'&' | b'\t' | b'\n' | b'\r')
 }
 
 /// The tag of no name and no attribute.
