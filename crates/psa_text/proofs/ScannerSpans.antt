@@ -84,6 +84,7 @@ module _ (elements : ℕ) (nest : State) where
     where
       more : count + 1 + length bs ≡ count + length (b ∷ bs)
       more = omega arith
+
       on : (t : Bool) (goes : Judged) → begins_tag p b ≡ t → judge p b ≡ goes → (if t then None else and_within goes (λ r. within r bs)) ≡ Some q
           → ((r : Lex) → within r bs ≡ Some q → reads (at (count + 1) (line_on line b) start r) bs ≡ Ok (at (count + length (b ∷ bs)) (lines_on line (b ∷ bs)) start q))
           → reads (at count line start p) (b ∷ bs) ≡ Ok (at (count + length (b ∷ bs)) (lines_on line (b ∷ bs)) start q)
@@ -165,6 +166,7 @@ front_is bytes span rest e = ap (λ n. take n bytes) amount ∙ ap (take (length
   where
     lengths : length bytes ≡ length span + length rest
     lengths = ap length e ∙ length-append span rest
+
     amount : length bytes - length rest ≡ length span
     amount = omega (arith, lengths)
 
@@ -178,11 +180,15 @@ span_near s t bytes rest room fits h = record {
   where
     whole : bytes ≡ h.span ++ (rest ++ drop room bytes)
     whole = sym (take-append-drop room bytes) ∙ ap (λ xs. xs ++ drop room bytes) h.joined ∙ append_assoc h.span rest (drop room bytes)
+
     lengths : length (take room bytes) ≡ length h.span + length rest
     lengths = ap length h.joined ∙ length-append h.span rest
+
     near : length (take room bytes) ≡ room
     near = length-take-le room bytes fits
+
     amount : room - length rest ≡ length h.span
     amount = omega (arith, lengths, near)
+
     behind : drop (room - length rest) bytes ≡ rest ++ drop room bytes
     behind = ap (λ n. drop n bytes) amount ∙ ap (drop (length h.span)) whole ∙ drop-append_seam h.span (rest ++ drop room bytes)

@@ -1,4 +1,4 @@
-ghost use Rattle.std.specs.Prelude.{◌≡◌, ◌+◌, ◌<◌, ◌≤◌, [], length};
+ghost use Rattle.std.specs.Prelude.{◌≡◌, ◌+◌, ◌<◌, ◌≤◌, [], ◌∷◌, length, IfOk};
 ghost use Rattle.psa_text.specs.declared.scanner_lexer.TokenError.TheVariants.{Memory};
 ghost use Rattle.psa_text.specs.declared.scanner_place.Place.{Place};
 ghost use Rattle.psa_text.specs.declared.scanner_place.Place.TheVariants as place;
@@ -490,7 +490,12 @@ impl Lexer {
     {
         let value = text_of(self.alloc, trimmed(&self.value))?;
         let name = mem::replace(&mut self.named, Text::new(self.alloc));
-        self.tag.attributes.push(Attribute { name, value })?;
+        let attribute = Attribute { name, value };
+        if self.tag.attributes.is_empty() {
+            self.tag.attributes = alone(self.alloc, attribute)?;
+        } else {
+            self.tag.attributes.push(attribute)?;
+        }
         self.place = Place::Behind;
         Ok(None)
     }
@@ -700,6 +705,15 @@ fn is_turned(byte: u8) -> bool
     ensures { result ≡ is_turned byte }
 {
     matches!(byte, b'<' | b'&' | b'\t' | b'\n' | b'\r')
+}
+
+/// A list of one attribute, with room for no other: most elements have one.
+fn alone(alloc: Global, attribute: Attribute) -> Result<Items<Attribute>, OutOfMemory>
+    ensures { IfOk result (λ list. list ≡ attribute ∷ []) }
+{
+    let mut list = Vec::with_capacity(alloc, 1)?;
+    list.push(attribute)?;
+    Ok(Items::from_vec(list))
 }
 
 /// The tag of no name and no attribute.

@@ -15,6 +15,55 @@ const REAL: &str = "\u{FEFF}<?xml version=\"1.0\"?>
 const REAL_TREE: &str =
     "opsa-mef@4 name=two{label@5{}define-gate@6 name=a<bA&\t c{and@6{gate@6 name=\u{E9}{}}}}";
 
+const TWO: &str = "<opsa-mef>
+<define-fault-tree name=\"TwoTrains\">
+<define-gate name=\"TopEvent\"><and><gate name=\"TrainOne\"/><gate name=\"TrainTwo\"/></and></define-gate>
+<define-gate name=\"TrainOne\"><or><basic-event name=\"PumpOne\"/><basic-event name=\"ValveOne\"/></or></define-gate>
+<define-gate name=\"TrainTwo\"><or><basic-event name=\"PumpTwo\"/><basic-event name=\"ValveTwo\"/></or></define-gate>
+<define-basic-event name=\"PumpOne\"/>
+<define-basic-event name=\"ValveOne\"/>
+<define-basic-event name=\"PumpTwo\"/>
+<define-basic-event name=\"ValveTwo\"/>
+</define-fault-tree>
+</opsa-mef>
+";
+
+const TWO_TREE: &str =
+    "opsa-mef@1{define-fault-tree@2 name=TwoTrains{define-gate@3 name=TopEvent{and@3{\
+    gate@3 name=TrainOne{}gate@3 name=TrainTwo{}}}define-gate@4 name=TrainOne{or@4{\
+    basic-event@4 name=PumpOne{}basic-event@4 name=ValveOne{}}}define-gate@5 \
+    name=TrainTwo{or@5{basic-event@5 name=PumpTwo{}basic-event@5 name=ValveTwo{}}}\
+    define-basic-event@6 name=PumpOne{}define-basic-event@7 name=ValveOne{}\
+    define-basic-event@8 name=PumpTwo{}define-basic-event@9 name=ValveTwo{}}}";
+
+const FIVE: &str = "<opsa-mef>
+<define-fault-tree name=\"F\">
+<define-gate name=\"g1\"><basic-event name=\"a\"/></define-gate>
+<define-gate name=\"g2\"><and><basic-event name=\"a\"/><basic-event name=\"b\"/><basic-event name=\"c\"/><basic-event name=\"d\"/></and></define-gate>
+<define-basic-event name=\"a\"/>
+<define-basic-event name=\"b\"/>
+<define-basic-event name=\"c\"/>
+<define-basic-event name=\"d\"/>
+</define-fault-tree>
+</opsa-mef>
+";
+
+const FIVE_TREE: &str = "opsa-mef@1{define-fault-tree@2 name=F{define-gate@3 name=g1{basic-event@3 \
+    name=a{}}define-gate@4 name=g2{and@4{basic-event@4 name=a{}basic-event@4 name=b{}\
+    basic-event@4 name=c{}basic-event@4 name=d{}}}define-basic-event@5 name=a{}\
+    define-basic-event@6 name=b{}define-basic-event@7 name=c{}define-basic-event@8 \
+    name=d{}}}";
+
+const MODELS: [(&str, &str); 4] = [
+    ("<opsa-mef/>", "opsa-mef@1{}"),
+    (TWO, TWO_TREE),
+    (FIVE, FIVE_TREE),
+    (REAL, REAL_TREE),
+];
+
+/// How many bytes the pieces have.
+const SIZES: [usize; 4] = [1, 2, 3, 64];
+
 /// An element as its tag, line and attributes and, between braces, the elements in it.
 fn outline(text: &mut String, element: &Element) -> Result<(), OutOfMemory> {
     text.push_str(element.tag.as_str())?;
@@ -71,18 +120,16 @@ fn read(alloc: Global, bytes: &[u8], size: usize) -> Result<String, OutOfMemory>
     let mut scanner = Scanner::new(alloc);
     let mut number = 0u32;
     for piece in bytes.chunks(size.max(1)) {
+        number = number.saturating_add(1);
         if let Err(error) = scanner.feed(piece) {
             push_error(&mut out, error)?;
-            if size == 1 {
-                out.push_str(" at ")?;
-                push_number(&mut out, number.saturating_add(1))?;
-            }
+            out.push_str(" at ")?;
+            push_number(&mut out, number)?;
             if scanner.feed(b"<") != Err(error) {
                 out.push_str(" then another")?;
             }
             return Ok(out);
         }
-        number = number.saturating_add(1);
     }
     match scanner.finish() {
         Ok(document) => outline(&mut out, &document.root)?,
@@ -91,15 +138,51 @@ fn read(alloc: Global, bytes: &[u8], size: usize) -> Result<String, OutOfMemory>
     Ok(out)
 }
 
+/// The outline of the tree of a text that comes in two pieces.
+fn read_halves(alloc: Global, bytes: &[u8], place: usize) -> Result<String, OutOfMemory> {
+    let mut out = String::new(alloc);
+    let mut scanner = Scanner::new(alloc);
+    let (first, second) = bytes.split_at(place.min(bytes.len()));
+    if let Err(error) = scanner.feed(first) {
+        push_error(&mut out, error)?;
+    }
+    if let Err(error) = scanner.feed(second) {
+        push_error(&mut out, error)?;
+    }
+    match scanner.finish() {
+        Ok(document) => outline(&mut out, &document.root)?,
+        Err(error) => push_error(&mut out, error)?,
+    }
+    Ok(out)
+}
+
+/// What `read` answers to a fault that the byte of this number decides, in pieces of so many bytes.
+fn told(alloc: Global, fault: &str, byte: usize, size: usize) -> Result<String, OutOfMemory> {
+    let mut out = String::from_str(alloc, fault)?;
+    if byte > 0 {
+        out.push_str(" at ")?;
+        push_number(&mut out, byte.div_ceil(size.max(1)) as u32)?;
+    }
+    Ok(out)
+}
+
 #[test]
-fn reads_a_model_in_any_pieces(rt: HostRuntime) {
-    for size in [1, 2, 3, 64, 1000] {
-        assert_eq!(rt;
-            read(rt.alloc(), REAL.as_bytes(), size)
-                .expect(&rt, "memory")
-                .as_str(),
-            REAL_TREE
-        );
+fn reads_models_in_any_pieces(rt: HostRuntime) {
+    for (text, tree) in MODELS {
+        for size in SIZES {
+            let read = read(rt.alloc(), text.as_bytes(), size).expect(&rt, "memory");
+            assert_eq!(rt; read.as_str(), tree, "{size}");
+        }
+    }
+}
+
+#[test]
+fn reads_models_cut_anywhere(rt: HostRuntime) {
+    for (text, tree) in MODELS {
+        for place in 0..=text.len() {
+            let read = read_halves(rt.alloc(), text.as_bytes(), place).expect(&rt, "memory");
+            assert_eq!(rt; read.as_str(), tree, "{place}");
+        }
     }
 }
 
@@ -128,79 +211,75 @@ const TREES: [(&str, &str); 16] = [
 #[test]
 fn reads_trees(rt: HostRuntime) {
     for (text, tree) in TREES {
-        assert_eq!(rt;
-            read(rt.alloc(), text.as_bytes(), 1)
-                .expect(&rt, "memory")
-                .as_str(),
-            tree,
-            "{text}"
-        );
-        assert_eq!(rt;
-            read(rt.alloc(), text.as_bytes(), 64)
-                .expect(&rt, "memory")
-                .as_str(),
-            tree,
-            "{text}"
-        );
+        for size in SIZES {
+            let read = read(rt.alloc(), text.as_bytes(), size).expect(&rt, "memory");
+            assert_eq!(rt; read.as_str(), tree, "{text}");
+        }
     }
 }
 
-const FAULTS: [(&[u8], &str); 46] = [
-    (b"", "bad nesting 1"),
-    (b"\xEF", "bad nesting 1"),
-    (b"\xEF\xBB", "bad nesting 1"),
-    (b"\xEF\xBB\xBF", "bad nesting 1"),
-    (b"\xEF<a/>", "bad nesting 1 at 2"),
-    (b"\xEF\xBB\n", "bad nesting 1 at 3"),
-    (b"\xBB", "bad nesting 1 at 1"),
-    (b"\n\xEF\xBB\xBF", "bad nesting 2 at 2"),
-    (b"\x1F\x8B", "bad nesting 1 at 1"),
-    (b"<opsa-mef name=\"x", "bad markup 1"),
-    (b"\n<a\n\n", "bad markup 2"),
-    (b"<a>\n\n", "bad nesting 3"),
-    (b"<a>\n</b>", "bad nesting 2 at 8"),
-    (b"</a>", "bad nesting 1 at 4"),
-    (b"<a/><b/>", "bad nesting 1 at 8"),
-    (b"<a/>\n<b><", "bad nesting 2 at 8"),
-    (b"<a/><!DOCTYPE a>", "bad nesting 1 at 16"),
-    (b"<a>x", "bad nesting 1 at 4"),
-    (b"<a>\n\n x", "bad nesting 3 at 7"),
-    (b"<label><b>x", "bad nesting 1 at 11"),
-    (b"<a/>x", "bad nesting 1 at 5"),
-    (b"<a/>\0", "bad nesting 1 at 5"),
-    (b"<a/><b x='<", "bad markup 1 at 11"),
-    (b"< a", "bad markup 1 at 2"),
-    (b"<1", "bad markup 1 at 2"),
-    (b"<a\n\n<", "bad markup 1 at 5"),
-    (b"<a/ >", "bad markup 1 at 4"),
-    (b"<a b='1'c", "bad markup 1 at 9"),
-    (b"<a b c", "bad markup 1 at 6"),
-    (b"<a b=1", "bad markup 1 at 6"),
-    (b"<!d", "bad markup 1 at 3"),
-    (b"<![", "bad markup 1 at 3"),
-    (b"<!-a", "bad markup 1 at 4"),
-    (b"<!DOCTYPE>", "bad markup 1 at 10"),
-    (b"<!DOCTYPE a [", "bad markup 1 at 13"),
-    (b"<a b='&x", "bad markup 1 at 8"),
-    (b"<a b='&amp'", "bad markup 1 at 11"),
-    (b"<a b='&#;", "bad markup 1 at 9"),
-    (b"<a b='&#x;", "bad markup 1 at 10"),
-    (b"<a b='&#123456789", "bad markup 1 at 17"),
-    (b"<a b='&#0;", "bad markup 1 at 10"),
-    (b"<a b='&#xD800;", "bad markup 1 at 14"),
-    (b"<a b='&#x110000;", "bad markup 1 at 16"),
-    (b"<a\xFF >", "bad markup 1 at 4"),
-    (b"<a b='\xC3'", "bad markup 1 at 8"),
-    (b"<a \xC3='", "bad markup 1 at 5"),
+/// Texts, their faults, and which of their bytes decides it, counted from 1; 0 for their end.
+const FAULTS: [(&[u8], &str, usize); 50] = [
+    (b"", "bad nesting 1", 0),
+    (b"\xEF", "bad nesting 1", 0),
+    (b"\xEF\xBB", "bad nesting 1", 0),
+    (b"\xEF\xBB\xBF", "bad nesting 1", 0),
+    (b"\xEF<a/>", "bad nesting 1", 2),
+    (b"\xEF\xBB\n", "bad nesting 1", 3),
+    (b"\xBB", "bad nesting 1", 1),
+    (b"\n\xEF\xBB\xBF", "bad nesting 2", 2),
+    (b"\x1F\x8B", "bad nesting 1", 1),
+    (b"<opsa-mef name=\"x", "bad markup 1", 0),
+    (b"\n<a\n\n", "bad markup 2", 0),
+    (b"<a>\n\n", "bad nesting 3", 0),
+    (b"<a>\n</b>", "bad nesting 2", 8),
+    (b"</a>", "bad nesting 1", 4),
+    (b"<a/><b/>", "bad nesting 1", 8),
+    (b"<a/>\n<b><", "bad nesting 2", 8),
+    (b"<a/><!DOCTYPE a>", "bad nesting 1", 16),
+    (b"<a>x", "bad nesting 1", 4),
+    (b"<a>\n\n x", "bad nesting 3", 7),
+    (b"<label><b>x", "bad nesting 1", 11),
+    (b"<a/>x", "bad nesting 1", 5),
+    (b"<a/>\0", "bad nesting 1", 5),
+    (b"<a/><b x='<", "bad markup 1", 11),
+    (b"< a", "bad markup 1", 2),
+    (b"<1", "bad markup 1", 2),
+    (b"<a\n\n<", "bad markup 1", 5),
+    (b"<a/ >", "bad markup 1", 4),
+    (b"<a b='1'c", "bad markup 1", 9),
+    (b"<a b c", "bad markup 1", 6),
+    (b"<a b=1", "bad markup 1", 6),
+    (b"<!d", "bad markup 1", 3),
+    (b"<![", "bad markup 1", 3),
+    (b"<!-a", "bad markup 1", 4),
+    (b"<!DOCTYPE>", "bad markup 1", 10),
+    (b"<!DOCTYPE a [", "bad markup 1", 13),
+    (b"<a b='&x", "bad markup 1", 8),
+    (b"<a b='&amp'", "bad markup 1", 11),
+    (b"<a b='&#;", "bad markup 1", 9),
+    (b"<a b='&#x;", "bad markup 1", 10),
+    (b"<a b='&#123456789", "bad markup 1", 17),
+    (b"<a b='&#x123456789", "bad markup 1", 18),
+    (b"<a b='&lt '", "bad markup 1", 10),
+    (b"<a b='&#0;", "bad markup 1", 10),
+    (b"<a b='&#xD800;", "bad markup 1", 14),
+    (b"<a b='&#xDFFF;", "bad markup 1", 14),
+    (b"<a b='&#x110000;", "bad markup 1", 16),
+    (b"<a\xFF >", "bad markup 1", 4),
+    (b"<a></a\xFF >", "bad markup 1", 8),
+    (b"<a b='\xC3'", "bad markup 1", 8),
+    (b"<a \xC3='", "bad markup 1", 5),
 ];
 
 #[test]
 fn finds_first_faults(rt: HostRuntime) {
-    for (text, fault) in FAULTS {
-        assert_eq!(rt;
-            read(rt.alloc(), text, 1).expect(&rt, "memory").as_str(),
-            fault
-        );
+    for (text, fault, byte) in FAULTS {
+        for size in SIZES {
+            let read = read(rt.alloc(), text, size).expect(&rt, "memory");
+            let told = told(rt.alloc(), fault, byte, size).expect(&rt, "memory");
+            assert_eq!(rt; read.as_str(), told.as_str());
+        }
     }
 }
 
@@ -220,19 +299,24 @@ fn repeated(
     Ok(text)
 }
 
-const TOO_LONG: [(&str, &str, usize, &str, &str); 12] = [
-    ("<", "n", 65, "/>", "long token 1 at 66"),
-    ("<a>\n</", "n", 65, ">", "long token 2 at 71"),
-    ("<a ", "n", 65, "='x'/>", "long token 1 at 68"),
-    ("<a b='", "v", 513, "'/>", "long token 1 at 519"),
-    ("<a b='", "&#65;", 103, "'/>", "long token 1 at 519"),
-    ("<a b='", "v", 508, "&#0;'/>", "bad markup 1 at 518"),
-    ("<a b='", "v", 509, "&#0;'/>", "bad markup 1 at 519"),
-    ("<a b='", "v", 510, "&#0;'/>", "long token 1 at 519"),
-    ("<a", " b='1'", 33, "/>", "long token 1 at 196"),
-    ("", "<a>", 65, "", "bad nesting 1 at 195"),
-    ("", "<a>", 64, "<a/>", "bad nesting 1 at 196"),
-    ("", "<a>", 64, "<a b='", "bad markup 1"),
+/// Texts of a start, a middle so many times, and an end; their faults as above.
+const TOO_LONG: [(&str, &str, usize, &str, &str, usize); 16] = [
+    ("<", "n", 65, "/>", "long token 1", 66),
+    ("<a>\n</", "n", 65, ">", "long token 2", 71),
+    ("<a ", "n", 65, "='x'/>", "long token 1", 68),
+    ("<", "n", 64, "<", "bad markup 1", 66),
+    ("<a/><", "n", 65, ">", "long token 1", 70),
+    ("<a b='", "v", 513, "'/>", "long token 1", 519),
+    ("<a b='", "v", 512, "<", "bad markup 1", 519),
+    ("<a b='", "&#65;", 103, "'/>", "long token 1", 519),
+    ("<a b='", "v", 508, "&#0;'/>", "bad markup 1", 518),
+    ("<a b='", "v", 509, "&#0;'/>", "bad markup 1", 519),
+    ("<a b='", "v", 510, "&#0;'/>", "long token 1", 519),
+    ("<a", " b='1'", 33, "/>", "long token 1", 196),
+    ("<a", " b='1'", 32, " 1", "bad markup 1", 196),
+    ("", "<a>", 65, "", "bad nesting 1", 195),
+    ("", "<a>", 64, "<a/>", "bad nesting 1", 196),
+    ("", "<a>", 64, "<a b='", "bad markup 1", 0),
 ];
 
 const LONGEST: [(&str, &str, usize, &str); 5] = [
@@ -245,15 +329,13 @@ const LONGEST: [(&str, &str, usize, &str); 5] = [
 
 #[test]
 fn keeps_limits(rt: HostRuntime) {
-    for (start, middle, count, end, fault) in TOO_LONG {
+    for (start, middle, count, end, fault, byte) in TOO_LONG {
         let text = repeated(rt.alloc(), start, middle, count, end).expect(&rt, "memory");
-        assert_eq!(rt;
-            read(rt.alloc(), text.as_bytes(), 1)
-                .expect(&rt, "memory")
-                .as_str(),
-            fault,
-            "{start}"
-        );
+        for size in SIZES {
+            let read = read(rt.alloc(), text.as_bytes(), size).expect(&rt, "memory");
+            let told = told(rt.alloc(), fault, byte, size).expect(&rt, "memory");
+            assert_eq!(rt; read.as_str(), told.as_str(), "{start}");
+        }
     }
     for (start, middle, count, end) in LONGEST {
         let text = repeated(rt.alloc(), start, middle, count, end).expect(&rt, "memory");
@@ -305,8 +387,12 @@ fn fed(
 fn keeps_the_limits_of_a_file(rt: HostRuntime) {
     let blanks = [b' '; 1024];
     let last = repeated(rt.alloc(), "", " ", 1023, "\n ").expect(&rt, "memory");
-    let cases: [(&str, &[u8], u32, &str, &str); 2] = [
+    let marked = repeated(rt.alloc(), "", " ", 1020, "\n ").expect(&rt, "memory");
+    let fits = repeated(rt.alloc(), "", " ", 1020, "\n").expect(&rt, "memory");
+    let cases: [(&str, &[u8], u32, &str, &str); 4] = [
         ("", &blanks, 65_535, last.as_str(), "long file 2"),
+        ("\u{FEFF}", &blanks, 65_535, marked.as_str(), "long file 2"),
+        ("\u{FEFF}", &blanks, 65_535, fits.as_str(), "none"),
         ("<a>\n", b"<b/>", 999_999, "\n<b", "long file 3"),
     ];
     for (front, middle, count, end, fault) in cases {
