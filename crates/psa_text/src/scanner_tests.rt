@@ -145,7 +145,7 @@ fn reads_trees(rt: HostRuntime) {
     }
 }
 
-const FAULTS: [(&[u8], &str); 46] = [
+const FAULTS: [(&[u8], &str); 47] = [
     (b"", "bad nesting 1"),
     (b"\xEF", "bad nesting 1"),
     (b"\xEF\xBB", "bad nesting 1"),
@@ -191,6 +191,7 @@ const FAULTS: [(&[u8], &str); 46] = [
     (b"<a b='&#x110000;", "bad markup 1 at 16"),
     (b"<a\xFF >", "bad markup 1 at 4"),
     (b"<a b='\xC3'", "bad markup 1 at 8"),
+    (b"<a b='\xC3&lt;\xA9'", "bad markup 1 at 13"),
     (b"<a \xC3='", "bad markup 1 at 5"),
 ];
 
