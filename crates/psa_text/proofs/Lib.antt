@@ -11,6 +11,7 @@ mod ScannerCloses
 mod ScannerRuns
 mod ScannerTrees
 mod ScannerReadings
+mod ScannerUtf8
 mod ScannerFaults
 mod ScannerScans
 mod ScannerEnds

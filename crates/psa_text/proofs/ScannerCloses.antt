@@ -1,14 +1,13 @@
 -- From each state some bytes end the item under way.
-use Rattle.std.specs.Prelude.{◌≡◌, ◌≢◌, ℕ, suc, ◌+◌, ◌*◌, ◌≤◌, ◌<◌, Bool, true, false, if◌then◌else◌, not, ◌&&◌, ◌||◌, ◌==◌, nat_lt, nat_le, List, [], ◌∷◌, ◌++◌, length, encode_utf8}
-use Rattle.std.proofs.Common.{refl, sym, ◌∙◌, ap, subst, arith, append_assoc}
+use Rattle.std.specs.Prelude.{◌≡◌, ◌≢◌, ℕ, ◌+◌, ◌*◌, ◌<◌, Bool, true, false, if◌then◌else◌, ◌==◌, nat_lt, List, [], ◌∷◌, ◌++◌, length}
+use Rattle.std.proofs.Common.{refl, subst, arith, append_assoc}
 use Rattle.std.proofs.lemmas.Bool.Decides.{nat_tests}
 use Rattle.psa_text.specs.declared.token.Tag.{Tag}
 use Rattle.psa_text.specs.declared.scanner_item.Item.{Item}
 use Rattle.psa_text.specs.declared.scanner_item.Item.TheVariants.{Start, Empty, End, Doctype, Text, Comment, Instruction}
-use Rattle.psa_text.specs.TextBytes.{spelled_behind, digit_of}
-use Rattle.psa_text.specs.TextItems.{IsItem, with_attribute}
-use Rattle.psa_text.specs.TextFaults.{IsPart}
-use Rattle.psa_text.specs.ScannerMachine.{Inside, Reference, Ampersand, LetterA, Named, NumberSign, Digits, Lex, Between, Opened, InInstruction, Question, Bang, BangDash, InComment, Dash, DashDash, Word, InDoctype, Name, Gap, Slash, AttributeName, AttributeGap, Equals, Value, Refer, Behind, EndOpened, EndName, EndGap, Next, Broken, Within, Whole, doctype_letters, counted, with_bytes, next}
+use Rattle.psa_text.specs.TextBytes.{digit_of}
+use Rattle.psa_text.specs.TextItems.{IsItem, referred, with_attribute}
+use Rattle.psa_text.specs.ScannerMachine.{Inside, Reference, Ampersand, LetterA, Named, NumberSign, Digits, Lex, Opened, InInstruction, Question, Bang, BangDash, InComment, Dash, DashDash, Word, InDoctype, Name, Gap, Slash, AttributeName, AttributeGap, Equals, Value, Refer, Behind, EndOpened, EndName, EndGap, Next, Within, Whole, counted, with_bytes, next}
 use Rattle.psa_text.proofs.ScannerSteps.{Reached, at_between, Went, item_step, InReference, ref_ampersand, ref_letter, ref_named, ref_number, ref_decimal, ref_hexadecimal, at_opened, at_instruction, at_question, at_bang, at_bang_dash, at_comment, at_dash, at_dashes, at_word, at_doctype, at_name, at_gap, at_slash, at_attribute, at_attribute_gap, at_equals, at_value, at_refer, at_behind, at_end_opened, at_end_name, at_end_gap}
 
 -- some bytes, at least one, make these an item
@@ -39,21 +38,21 @@ closes_value : (v : Inside) (w : List ℕ) → Reached (Value v) w → Closes w
 closes_value v w r = via (Value v) w v.quote (Behind (with_attribute v.tag v.name v.value)) (same_byte v.quote _ _) (closes_behind (with_attribute v.tag v.name v.value)) r
 
 closes_named : (v : Inside) (rest : List ℕ) (code : ℕ) (w : List ℕ) → Reached (Refer v (Named rest code)) w → Closes w
-closes_named v [] code w r = via (Refer v (Named [] code)) w 59 (Value (with_bytes v (encode_utf8 code))) refl (closes_value (with_bytes v (encode_utf8 code))) r
+closes_named v [] code w r = via (Refer v (Named [] code)) w 59 (Value (with_bytes v (referred code))) refl (closes_value (with_bytes v (referred code))) r
 closes_named v (c ∷ rest) code w r = via (Refer v (Named (c ∷ rest) code)) w c (Refer (counted v) (Named rest code)) (same_byte c _ _) (closes_named (counted v) rest code) r
 
 closes_decimal : (v : Inside) (count number : ℕ) → 0 < count → (w : List ℕ) → Reached (Refer v (Digits 10 count number)) w → Closes w
 closes_decimal v count number some w r =
     let t : nat_lt 0 count ≡ true = grind (arith, nat_tests, some) in
-    via (Refer v (Digits 10 count number)) w 59 (Value (with_bytes v (encode_utf8 number))) (rw t refl) (closes_value (with_bytes v (encode_utf8 number))) r
+    via (Refer v (Digits 10 count number)) w 59 (Value (with_bytes v (referred number))) (rw t refl) (closes_value (with_bytes v (referred number))) r
 
 closes_hexadecimal : (v : Inside) (count number : ℕ) (t : Bool) → nat_lt 0 count ≡ t → (w : List ℕ) → Reached (Refer v (Digits 16 count number)) w → Closes w
-closes_hexadecimal v count number true t w r = via (Refer v (Digits 16 count number)) w 59 (Value (with_bytes v (encode_utf8 number))) (rw t refl) (closes_value (with_bytes v (encode_utf8 number))) r
+closes_hexadecimal v count number true t w r = via (Refer v (Digits 16 count number)) w 59 (Value (with_bytes v (referred number))) (rw t refl) (closes_value (with_bytes v (referred number))) r
 closes_hexadecimal v count number false t w r =
     let small : nat_lt count 8 ≡ true = grind (arith, nat_tests, t) in
     let some : nat_lt 0 (count + 1) ≡ true = grind (arith, nat_tests) in
     via (Refer v (Digits 16 count number)) w 48 (Refer (counted v) (Digits 16 (count + 1) (16 * number + digit_of 48))) (rw small refl)
-    (λ u q. via (Refer (counted v) (Digits 16 (count + 1) (16 * number + digit_of 48))) u 59 (Value (with_bytes (counted v) (encode_utf8 (16 * number + digit_of 48)))) (rw some refl) (closes_value (with_bytes (counted v) (encode_utf8 (16 * number + digit_of 48)))) q) r
+    (λ u q. via (Refer (counted v) (Digits 16 (count + 1) (16 * number + digit_of 48))) u 59 (Value (with_bytes (counted v) (referred (16 * number + digit_of 48)))) (rw some refl) (closes_value (with_bytes (counted v) (referred (16 * number + digit_of 48)))) q) r
 
 digits_some : (digits : List ℕ) (count : ℕ) → digits ≢ [] → count ≡ length digits → 0 < count
 digits_some [] count some is = absurd (some refl)

@@ -1,16 +1,16 @@
 -- The faults within the item under way: each test of the machine finds exactly what the definition names.
-use Rattle.std.specs.Prelude.{◌≡◌, ◌≢◌, ℕ, suc, ◌+◌, ◌*◌, ◌≤◌, ◌<◌, Bool, true, false, if◌then◌else◌, not, ◌&&◌, ◌||◌, ◌==◌, nat_lt, nat_le, List, [], ◌∷◌, ◌++◌, length, Option, Some, None, encode_utf8}
+use Rattle.std.specs.Prelude.{◌≡◌, ◌≢◌, ℕ, ◌+◌, ◌*◌, ◌≤◌, ◌<◌, Bool, true, false, not, ◌&&◌, ◌||◌, ◌==◌, nat_lt, nat_le, List, [], ◌∷◌, ◌++◌, length}
 use Rattle.std.specs.Str.{is_utf8}
-use Rattle.std.proofs.Common.{refl, sym, ◌∙◌, ap, subst, arith, append_assoc, append-nil}
+use Rattle.std.proofs.Common.{refl, ◌∙◌, ap, arith, append_assoc}
 use Rattle.std.proofs.lemmas.Bool.Decides.{nat_tests}
-use Rattle.std.proofs.lemmas.List.{length-append}
 use Rattle.psa_text.specs.declared.token.Tag.{Tag}
-use Rattle.psa_text.specs.TextBytes.{AllPass, AreBlanks, IsName, is_name_start, is_name_byte, is_quote, is_digit_of, digit_of, spaced, spelled_behind, trimmed, is_character}
-use Rattle.psa_text.specs.TextItems.{IsReference, is_less, is_greater, is_ampersand, is_quotation, is_apostrophe, is_decimal, is_hexadecimal, IsRaw, no_byte, and_byte, and_reference, IsOpening, IsHead, with_attribute}
+use Rattle.psa_text.specs.TextBytes.{AllPass, AreBlanks, IsName, is_name_byte, is_quote, is_digit_of, digit_of, spelled_behind, trimmed, is_character}
+use Rattle.psa_text.specs.TextItems.{IsReference, is_less, is_greater, is_ampersand, is_quotation, is_apostrophe, is_decimal, is_hexadecimal, IsRaw, no_byte, and_byte, and_reference, IsOpening, IsHead}
 use Rattle.psa_text.specs.TextFaults.{EndsInName, in_tag, in_end_tag, in_attribute, IsLong, long_name, many_attributes, long_value, IsBadEnd, bad_name, bad_value, bad_reference}
-use Rattle.psa_text.specs.ScannerMachine.{Inside, Reference, Ampersand, LetterA, Named, NumberSign, Digits, Lex, Between, Opened, InInstruction, Question, Bang, BangDash, InComment, Dash, DashDash, Word, InDoctype, Name, Gap, Slash, AttributeName, AttributeGap, Equals, Value, Refer, Behind, EndOpened, EndName, EndGap, Next, Broken, Within, Whole, counted, with_bytes, refers, refer_next, next, is_long, is_bad_end, is_bad_reference}
-use Rattle.psa_text.proofs.ScannerSteps.{choose, equal, and_true, length-push, InReference, ref_ampersand, ref_letter, ref_named, ref_number, ref_decimal, ref_hexadecimal, Reached, at_between, at_opened, at_instruction, at_question, at_bang, at_bang_dash, at_comment, at_dash, at_dashes, at_word, at_doctype, at_name, at_gap, at_slash, at_attribute, at_attribute_gap, at_equals, at_value, at_refer, at_behind, at_end_opened, at_end_name, at_end_gap}
-use Rattle.psa_text.proofs.ScannerRuns.{run, then_run, chained, RanTo, head_run, gap_run, attribute_run, opening_run, raw_run, value_at, tag_name_run, end_name_run, digits_run, digit_no_x, quote_no_ampersand, same}
+use Rattle.psa_text.specs.ScannerMachine.{Inside, Reference, Ampersand, NumberSign, Digits, Lex, Between, Opened, Name, Gap, AttributeName, Value, Refer, EndOpened, EndName, Next, Within, counted, is_long, is_bad_end, is_bad_reference}
+use Rattle.psa_text.proofs.ScannerSteps.{equal, and_true, InReference, ref_ampersand, ref_letter, ref_named, ref_number, ref_decimal, ref_hexadecimal, Reached, at_name, at_attribute, at_value, at_refer, at_end_name}
+use Rattle.psa_text.proofs.ScannerUtf8.{value_utf8}
+use Rattle.psa_text.proofs.ScannerRuns.{run, then_run, chained, head_run, gap_run, attribute_run, opening_run, raw_run, value_at, tag_name_run, end_name_run, digits_run, digit_no_x, quote_no_ampersand, same}
 
 not_true : (t : Bool) → not t ≡ true → t ≡ false
 not_true true h = cc
@@ -38,7 +38,7 @@ bad_sound b (at_attribute head tag blanks name is some are named) h =
     bad_name (head ++ (blanks ++ name)) name b (in_attribute head tag blanks name is some are named) (not_true (is_name_byte b) t.0) (not_true (is_utf8 name) t.1)
 bad_sound b (at_value head tag quote name opening raw value count is opens raws counts) h =
     let t = and_true (b == quote) (not (is_utf8 (trimmed value))) h in
-    rw (equal b quote t.0) (bad_value head tag quote name opening raw value is opens raws (not_true (is_utf8 (trimmed value)) t.1))
+    rw (equal b quote t.0) (bad_value head tag quote name opening raw value is opens raws (value_utf8 raws ∙ not_true (is_utf8 (trimmed value)) t.1))
 bad_sound b (at_refer head tag quote name opening raw value _ count _ is opens raws (ref_decimal digits n number some small counts spelled are) counted') h =
     let t = and_true ((b == 59) && nat_lt 0 n) (not (is_character number)) h in
     let u = and_true (b == 59) (nat_lt 0 n) t.0 in
@@ -238,7 +238,7 @@ bad_complete (bad_name part name b ends other bad) = let n = name_run ends in re
 bad_complete (bad_value head tag quote name opening raw value is opens raws bad) = record {
   state = value_at tag name quote (length raw) value;
   ran = opened_run head tag quote name opening raw _ is opens (raw_run tag name opens.is_quote raws);
-  bad = rw (same quote, bad) refl;
+  bad = rw (same quote, ← value_utf8 raws, bad) refl;
 }
 bad_complete (bad_reference head tag quote name opening raw value part _ _ b is opens raws is_less other spelled) = absurd (cc)
 bad_complete (bad_reference head tag quote name opening raw value part _ _ b is opens raws is_greater other spelled) = absurd (cc)

@@ -1,14 +1,14 @@
 -- The machine runs over every item of the grammar.
-use Rattle.std.specs.Prelude.{◌≡◌, ◌≢◌, ℕ, suc, ◌+◌, ◌*◌, ◌≤◌, ◌<◌, Bool, true, false, if◌then◌else◌, not, ◌&&◌, ◌||◌, ◌==◌, nat_lt, nat_le, List, [], ◌∷◌, ◌++◌, length, Option, Some, None, encode_utf8}
-use Rattle.std.proofs.Common.{refl, sym, ◌∙◌, ap, subst, arith, append_assoc, append-nil}
+use Rattle.std.specs.Prelude.{◌≡◌, ◌≢◌, ℕ, ◌+◌, ◌*◌, ◌≤◌, Bool, true, false, ◌==◌, nat_lt, List, [], ◌∷◌, ◌++◌, length, Some}
+use Rattle.std.proofs.Common.{refl, ◌∙◌, ap, arith, append_assoc, append-nil}
 use Rattle.std.proofs.lemmas.Bool.Decides.{nat_tests}
 use Rattle.std.proofs.lemmas.List.{length-append}
 use Rattle.psa_text.specs.declared.token.Tag.{Tag}
 use Rattle.psa_text.specs.declared.scanner_item.Item.{Item}
-use Rattle.psa_text.specs.declared.scanner_item.Item.TheVariants.{Start, Empty, End, Doctype, Text, Comment, Instruction}
-use Rattle.psa_text.specs.TextBytes.{AllPass, is_blank, AreBlanks, IsName, is_digit, is_name_start, is_name_byte, is_quote, is_doctype_byte, is_value_byte, is_digit_of, digit_of, spaced, spelled_behind}
-use Rattle.psa_text.specs.TextItems.{IsReference, is_less, is_greater, is_ampersand, is_quotation, is_apostrophe, is_decimal, is_hexadecimal, IsRaw, no_byte, and_byte, and_reference, IsOpening, with_attribute, IsHead, head_name, head_more, behind_first, IsItem, is_text, is_instruction, is_comment, is_doctype, is_start, is_empty, is_end}
-use Rattle.psa_text.specs.ScannerMachine.{Inside, Reference, Ampersand, LetterA, Named, NumberSign, Digits, Lex, Between, Opened, InInstruction, Question, Bang, BangDash, InComment, Dash, DashDash, Word, InDoctype, Name, Gap, Slash, AttributeName, AttributeGap, Equals, Value, Refer, Behind, EndOpened, EndName, EndGap, Next, Broken, Within, Whole, doctype_letters, tag_on, name_on, end_on, counted, with_bytes, refers, refer_next, next}
+use Rattle.psa_text.specs.declared.scanner_item.Item.TheVariants.{Start, End, Doctype, Text, Comment, Instruction}
+use Rattle.psa_text.specs.TextBytes.{AllPass, is_blank, AreBlanks, IsName, is_name_start, is_name_byte, is_quote, is_doctype_byte, is_value_byte, is_digit_of, digit_of, spaced, spelled_behind}
+use Rattle.psa_text.specs.TextItems.{IsReference, is_less, is_greater, is_ampersand, is_quotation, is_apostrophe, is_decimal, is_hexadecimal, IsRaw, no_byte, and_byte, and_reference, referred, IsOpening, with_attribute, IsHead, head_name, head_more, behind_first, IsItem, is_text, is_instruction, is_comment, is_doctype, is_start, is_empty, is_end}
+use Rattle.psa_text.specs.ScannerMachine.{Inside, Ampersand, NumberSign, Digits, Lex, Between, Opened, InInstruction, Question, InComment, Dash, DashDash, Word, InDoctype, Name, Gap, Slash, AttributeName, AttributeGap, Equals, Value, Refer, Behind, EndOpened, EndName, EndGap, Next, Broken, Within, Whole, tag_on, counted, with_bytes, next}
 use Rattle.psa_text.proofs.ScannerSteps.{instruction_end, comment_end, length-push, equal}
 
 -- the machine over bytes of one item
@@ -134,15 +134,15 @@ some_digits : (digits : List ℕ) → digits ≢ [] → nat_lt 0 (0 + length dig
 some_digits [] some = absurd (some refl)
 some_digits (d ∷ ds) some = grind (arith, nat_tests)
 
-number_ends : (base : ℕ) (v : Inside) (count number : ℕ) → is_digit_of base 59 ≡ false → nat_lt 0 count ≡ true → run (Refer v (Digits base count number)) (59 ∷ []) ≡ Within (Value (with_bytes v (encode_utf8 number)))
-number_ends base v count number other some = then_run (Refer v (Digits base count number)) (Value (with_bytes v (encode_utf8 number))) 59 [] _ (rw (other, some) refl) refl
+number_ends : (base : ℕ) (v : Inside) (count number : ℕ) → is_digit_of base 59 ≡ false → nat_lt 0 count ≡ true → run (Refer v (Digits base count number)) (59 ∷ []) ≡ Within (Value (with_bytes v (referred number)))
+number_ends base v count number other some = then_run (Refer v (Digits base count number)) (Value (with_bytes v (referred number))) 59 [] _ (rw (other, some) refl) refl
 
-pub reference_run : {r : List ℕ} {code : ℕ} (v : Inside) → (38 == v.quote) ≡ false → IsReference r code → run (Value v) r ≡ Within (Value (record v { count = v.count + length r; value = v.value ++ encode_utf8 code }))
-reference_run v e is_less = then_run (Value v) (Refer (counted v) Ampersand) 38 (108 ∷ 116 ∷ 59 ∷ []) _ (rw e refl) (recount v (v.value ++ encode_utf8 60) (v.count + 1 + 1 + 1 + 1) (v.count + 4) (omega arith))
-reference_run v e is_greater = then_run (Value v) (Refer (counted v) Ampersand) 38 (103 ∷ 116 ∷ 59 ∷ []) _ (rw e refl) (recount v (v.value ++ encode_utf8 62) (v.count + 1 + 1 + 1 + 1) (v.count + 4) (omega arith))
-reference_run v e is_ampersand = then_run (Value v) (Refer (counted v) Ampersand) 38 (97 ∷ 109 ∷ 112 ∷ 59 ∷ []) _ (rw e refl) (recount v (v.value ++ encode_utf8 38) (v.count + 1 + 1 + 1 + 1 + 1) (v.count + 5) (omega arith))
-reference_run v e is_quotation = then_run (Value v) (Refer (counted v) Ampersand) 38 (113 ∷ 117 ∷ 111 ∷ 116 ∷ 59 ∷ []) _ (rw e refl) (recount v (v.value ++ encode_utf8 34) (v.count + 1 + 1 + 1 + 1 + 1 + 1) (v.count + 6) (omega arith))
-reference_run v e is_apostrophe = then_run (Value v) (Refer (counted v) Ampersand) 38 (97 ∷ 112 ∷ 111 ∷ 115 ∷ 59 ∷ []) _ (rw e refl) (recount v (v.value ++ encode_utf8 39) (v.count + 1 + 1 + 1 + 1 + 1 + 1) (v.count + 6) (omega arith))
+pub reference_run : {r : List ℕ} {code : ℕ} (v : Inside) → (38 == v.quote) ≡ false → IsReference r code → run (Value v) r ≡ Within (Value (record v { count = v.count + length r; value = v.value ++ referred code }))
+reference_run v e is_less = then_run (Value v) (Refer (counted v) Ampersand) 38 (108 ∷ 116 ∷ 59 ∷ []) _ (rw e refl) (recount v (v.value ++ referred 60) (v.count + 1 + 1 + 1 + 1) (v.count + 4) (omega arith))
+reference_run v e is_greater = then_run (Value v) (Refer (counted v) Ampersand) 38 (103 ∷ 116 ∷ 59 ∷ []) _ (rw e refl) (recount v (v.value ++ referred 62) (v.count + 1 + 1 + 1 + 1) (v.count + 4) (omega arith))
+reference_run v e is_ampersand = then_run (Value v) (Refer (counted v) Ampersand) 38 (97 ∷ 109 ∷ 112 ∷ 59 ∷ []) _ (rw e refl) (recount v (v.value ++ referred 38) (v.count + 1 + 1 + 1 + 1 + 1) (v.count + 5) (omega arith))
+reference_run v e is_quotation = then_run (Value v) (Refer (counted v) Ampersand) 38 (113 ∷ 117 ∷ 111 ∷ 116 ∷ 59 ∷ []) _ (rw e refl) (recount v (v.value ++ referred 34) (v.count + 1 + 1 + 1 + 1 + 1 + 1) (v.count + 6) (omega arith))
+reference_run v e is_apostrophe = then_run (Value v) (Refer (counted v) Ampersand) 38 (97 ∷ 112 ∷ 111 ∷ 115 ∷ 59 ∷ []) _ (rw e refl) (recount v (v.value ++ referred 39) (v.count + 1 + 1 + 1 + 1 + 1 + 1) (v.count + 6) (omega arith))
 reference_run v e (is_decimal [] some small are) = absurd (some refl)
 reference_run v e (is_decimal (d ∷ ds) some small are) =
     let inner = counted (counted (counted v)) in
@@ -150,14 +150,14 @@ reference_run v e (is_decimal (d ∷ ds) some small are) =
     then_run (Value v) (Refer (counted v) Ampersand) 38 (35 ∷ d ∷ (ds ++ (59 ∷ []))) _ (rw e refl) (then_run (Refer (counted (counted v)) NumberSign) (Refer inner (Digits 10 1 (10 * 0 + digit_of d))) d (ds ++ (59 ∷ [])) _ (rw (digit_no_x d are.0, are.0) refl) (chained (Refer inner (Digits 10 1 (10 * 0 + digit_of d))) (Refer (record inner { count = inner.count + length ds }) (Digits 10 (1 + length ds) (spelled_behind 10 0 (d ∷ ds)))) ds (59 ∷ []) _
     (digits_run 10 inner 1 (10 * 0 + digit_of d) ds fits are.1)
     (number_ends 10 (record inner { count = inner.count + length ds }) (1 + length ds) (spelled_behind 10 0 (d ∷ ds)) refl (grind (arith, nat_tests))
-    ∙ recount v (v.value ++ encode_utf8 (spelled_behind 10 0 (d ∷ ds))) (v.count + 1 + 1 + 1 + length ds + 1) (v.count + length (38 ∷ 35 ∷ d ∷ (ds ++ (59 ∷ [])))) (omega (arith, length-push ds 59)))))
+    ∙ recount v (v.value ++ referred (spelled_behind 10 0 (d ∷ ds))) (v.count + 1 + 1 + 1 + length ds + 1) (v.count + length (38 ∷ 35 ∷ d ∷ (ds ++ (59 ∷ [])))) (omega (arith, length-push ds 59)))))
 reference_run v e (is_hexadecimal digits some small are) =
     let inner = counted (counted (counted v)) in
     let fits : 0 + length digits ≤ 8 = omega (arith, small) in
     then_run (Value v) (Refer (counted v) Ampersand) 38 (35 ∷ 120 ∷ (digits ++ (59 ∷ []))) _ (rw e refl) (chained (Refer inner (Digits 16 0 0)) (Refer (record inner { count = inner.count + length digits }) (Digits 16 (0 + length digits) (spelled_behind 16 0 digits))) digits (59 ∷ []) _
     (digits_run 16 inner 0 0 digits fits are)
     (number_ends 16 (record inner { count = inner.count + length digits }) (0 + length digits) (spelled_behind 16 0 digits) refl (some_digits digits some)
-    ∙ recount v (v.value ++ encode_utf8 (spelled_behind 16 0 digits)) (v.count + 1 + 1 + 1 + length digits + 1) (v.count + length (38 ∷ 35 ∷ 120 ∷ (digits ++ (59 ∷ [])))) (omega (arith, length-push digits 59))))
+    ∙ recount v (v.value ++ referred (spelled_behind 16 0 digits)) (v.count + 1 + 1 + 1 + length digits + 1) (v.count + length (38 ∷ 35 ∷ 120 ∷ (digits ++ (59 ∷ [])))) (omega (arith, length-push digits 59))))
 
 -- values
 abbrev pub value_at : Tag → List ℕ → ℕ → ℕ → List ℕ → Lex

@@ -1,29 +1,27 @@
 -- What a scan says of the bytes that it has read, and that each byte is answered as the definition of faults has it.
-use Rattle.std.specs.Prelude.{◌≡◌, ◌≢◌, ℕ, suc, ◌+◌, ◌*◌, ◌≤◌, ◌<◌, Bool, true, false, if◌then◌else◌, not, ◌&&◌, ◌||◌, ◌==◌, nat_lt, nat_le, List, [], ◌∷◌, ◌++◌, length, Option, Some, None, Result, Ok, Err, count_by, encode_utf8}
+use Rattle.std.specs.Prelude.{◌≡◌, ◌≢◌, ℕ, ◌+◌, ◌*◌, ◌≤◌, ◌<◌, Bool, true, false, if◌then◌else◌, not, ◌&&◌, ◌||◌, ◌==◌, nat_lt, nat_le, List, [], ◌∷◌, ◌++◌, length, Option, Some, None, Result, Ok, Err}
 use Rattle.std.proofs.Common.{refl, sym, ◌∙◌, ap, subst, arith, append_assoc, append-nil}
 use Rattle.std.proofs.lemmas.Bool.Decides.{nat_tests}
-use Rattle.psa_text.specs.declared.tree.Element.{Element}
-use Rattle.psa_text.specs.declared.token.Tag.{Tag}
 use Rattle.psa_text.specs.declared.scanner_item.Item.{Item}
 use Rattle.psa_text.specs.declared.scanner_item.Item.TheVariants.{Text}
 use Rattle.psa_text.specs.declared.scanner_mark.Mark.{Mark}
 use Rattle.psa_text.specs.declared.scanner_mark.Mark.TheVariants.{Unread, FirstByte, SecondByte, Passed}
 use Rattle.psa_text.specs.declared.scanner_error.TextFault.{TextFault}
-use Rattle.psa_text.specs.declared.scanner_error.TextKind.TheVariants.{LongFile, BadMarkup, LongToken, BadNesting}
+use Rattle.psa_text.specs.declared.scanner_error.TextKind.TheVariants.{LongFile, BadMarkup, LongToken}
 use Rattle.psa_text.specs.Nesting.{State, at_start}
 use Rattle.psa_text.specs.TextBytes.{AllPass, is_name_start, is_digit_of, digit_of, spaced, line_after}
-use Rattle.psa_text.specs.TextItems.{IsItem, Placed, AreItems, and_item, IsFront, IsHead, IsOpening}
-use Rattle.psa_text.specs.TextTree.{IsDocument, IsDocumentFront}
-use Rattle.psa_text.specs.TextFaults.{IsMarkFront, no_byte, one_byte, two_bytes, whole_mark, behind_two, behind_one, unmarked, IsPart, IsWithin, IsLong, long_name, many_attributes, long_value, IsBadEnd, begins_element, element_count, fault, DecidesWithin, many_elements, no_front, bad_end, long_token, bad_nesting, Decides, long_file, broken_at_two, broken_at_three, behind_mark, NoFault, FirstFault}
-use Rattle.psa_text.specs.ScannerMachine.{Inside, Reference, Ampersand, LetterA, Named, NumberSign, Digits, Lex, Between, Opened, Value, Refer, Next, Broken, Within, Whole, counted, with_bytes, refers, refer_next, next, is_long, is_bad_end, begins_tag}
-use Rattle.psa_text.specs.ScannerView.{Judged, IsBad, On, Done, judged, judge}
+use Rattle.psa_text.specs.TextItems.{referred, Placed, AreItems, and_item}
+use Rattle.psa_text.specs.TextTree.{IsDocumentFront}
+use Rattle.psa_text.specs.TextFaults.{IsMarkFront, one_byte, two_bytes, whole_mark, behind_two, behind_one, unmarked, IsWithin, IsLong, long_name, many_attributes, long_value, IsBadEnd, begins_element, element_count, fault, DecidesWithin, many_elements, no_front, bad_end, long_token, bad_nesting, Decides, long_file, broken_at_two, broken_at_three, behind_mark, NoFault, FirstFault}
+use Rattle.psa_text.specs.ScannerMachine.{Inside, Reference, Ampersand, LetterA, Named, NumberSign, Digits, Lex, Between, Opened, Value, Refer, Next, Broken, Within, Whole, with_bytes, refers, refer_next, next, is_long, is_bad_end, begins_tag}
+use Rattle.psa_text.specs.ScannerView.{judged}
 use Rattle.psa_text.specs.ScannerNesting.{nest}
 use Rattle.psa_text.specs.ScannerState.{Scan, start_scan, line_on, on_nested, on_judged, item_stepped, marked, mark_stepped, stepped, and_then, reads}
 use Rattle.psa_text.proofs.ScannerSteps.{choose, equal, and_true, Reached, at_opened, Went, item_step}
-use Rattle.psa_text.proofs.ScannerRuns.{run, value_at}
-use Rattle.psa_text.proofs.ScannerTrees.{nests, nests-append, nests_then, onward, stands_front, Stands, StandsAt, step_stands, before_root, document_nests, state}
-use Rattle.psa_text.proofs.ScannerReadings.{Reading, first, read_next, and_on, read_all, read_all-append, read_then, read_one, count-push, line-push, Standing, standing, live_front, within, dead_front, at_lex, run_reads, part_read, items_read}
-use Rattle.psa_text.proofs.ScannerFaults.{bad_sound, long_sound, EndsBadly, bad_complete, NameRun, name_run, attribute_part_run, opened_run}
+use Rattle.psa_text.proofs.ScannerRuns.{value_at}
+use Rattle.psa_text.proofs.ScannerTrees.{nests, nests-append, nests_then, onward, stands_front, Stands, StandsAt, step_stands, before_root, document_nests}
+use Rattle.psa_text.proofs.ScannerReadings.{Reading, first, read_next, and_on, read_all, read_then, read_one, count-push, standing, live_front, within, dead_front, part_read, items_read}
+use Rattle.psa_text.proofs.ScannerFaults.{bad_sound, long_sound, bad_complete, name_run, attribute_part_run, opened_run}
 
 some_same : {A : Type 0} {x y : A} → Some x ≡ Some y → x ≡ y
 some_same h = cc
@@ -59,14 +57,14 @@ refer_inside quote count v Ampersand b e f =
 refer_inside quote count v LetterA b e f =
     choose (InsideNext quote (count + 1)) (b == 109) _ _ (λ _. on_refer quote count v (Named (112 ∷ []) 38) e f)
     (λ _. choose (InsideNext quote (count + 1)) (b == 112) _ _ (λ _. on_refer quote count v (Named (111 ∷ 115 ∷ []) 39) e f) (λ _. tt))
-refer_inside quote count v (Named [] code) b e f = choose (InsideNext quote (count + 1)) (b == 59) _ _ (λ _. on_value quote count v (encode_utf8 code) e f) (λ _. tt)
+refer_inside quote count v (Named [] code) b e f = choose (InsideNext quote (count + 1)) (b == 59) _ _ (λ _. on_value quote count v (referred code) e f) (λ _. tt)
 refer_inside quote count v (Named (c ∷ rest) code) b e f = choose (InsideNext quote (count + 1)) (b == c) _ _ (λ _. on_refer quote count v (Named rest code) e f) (λ _. tt)
 refer_inside quote count v NumberSign b e f =
     choose (InsideNext quote (count + 1)) (b == 120) _ _ (λ _. on_refer quote count v (Digits 16 0 0) e f)
     (λ _. choose (InsideNext quote (count + 1)) (is_digit_of 10 b) _ _ (λ _. on_refer quote count v (Digits 10 1 (10 * 0 + digit_of b)) e f) (λ _. tt))
 refer_inside quote count v (Digits base digits number) b e f =
     choose (InsideNext quote (count + 1)) (is_digit_of base b && nat_lt digits 8) _ _ (λ _. on_refer quote count v (Digits base (digits + 1) (base * number + digit_of b)) e f)
-    (λ _. choose (InsideNext quote (count + 1)) ((b == 59) && nat_lt 0 digits) _ _ (λ _. on_value quote count v (encode_utf8 number) e f) (λ _. tt))
+    (λ _. choose (InsideNext quote (count + 1)) ((b == 59) && nat_lt 0 digits) _ _ (λ _. on_value quote count v (referred number) e f) (λ _. tt))
 
 not_false : (t : Bool) → not t ≡ true → t ≡ false
 not_false true h = cc

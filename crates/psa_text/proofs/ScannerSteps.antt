@@ -1,14 +1,11 @@
 -- What the machine's states say of the bytes so far, kept by each byte.
-use Rattle.std.specs.Prelude.{◌≡◌, ◌≢◌, ℕ, suc, ◌+◌, ◌*◌, ◌≤◌, ◌<◌, Bool, true, false, if◌then◌else◌, not, ◌&&◌, ◌||◌, ◌==◌, nat_lt, nat_le, List, [], ◌∷◌, ◌++◌, length, Option, Some, None, encode_utf8}
-use Rattle.std.proofs.Common.{refl, sym, ◌∙◌, ap, subst, cond, arith, append_assoc, append-nil, eqb, add-one, zero-add}
+use Rattle.std.specs.Prelude.{◌≡◌, ◌≢◌, ℕ, ◌+◌, ◌*◌, ◌≤◌, Bool, true, false, if◌then◌else◌, ◌&&◌, ◌==◌, nat_lt, List, [], ◌∷◌, ◌++◌, length}
+use Rattle.std.proofs.Common.{refl, sym, ◌∙◌, arith, append_assoc, append-nil}
 use Rattle.std.proofs.lemmas.Bool.Decides.{nat_tests}
 use Rattle.std.proofs.lemmas.List.{length-append}
-use Rattle.psa_text.specs.declared.tree.Attribute.{Attribute}
 use Rattle.psa_text.specs.declared.token.Tag.{Tag}
-use Rattle.psa_text.specs.declared.scanner_item.Item.{Item}
-use Rattle.psa_text.specs.declared.scanner_item.Item.TheVariants.{Start, Empty, End, Doctype, Text, Comment, Instruction}
-use Rattle.psa_text.specs.TextBytes.{AllPass, is_blank, is_character, AreBlanks, IsName, is_digit, is_name_start, is_name_byte, is_quote, is_doctype_byte, is_value_byte, is_digit_of, digit_of, spaced, spelled_behind, trimmed, line_after}
-use Rattle.psa_text.specs.TextItems.{IsReference, is_less, is_greater, is_ampersand, is_quotation, is_apostrophe, is_decimal, is_hexadecimal, IsRaw, no_byte, and_byte, and_reference, IsOpening, with_attribute, IsHead, head_name, head_more, behind_first, IsItem, is_text, is_instruction, is_comment, is_doctype, is_start, is_empty, is_end}
+use Rattle.psa_text.specs.TextBytes.{AllPass, is_blank, AreBlanks, IsName, is_name_start, is_name_byte, is_quote, is_doctype_byte, is_value_byte, is_digit_of, digit_of, spaced, spelled_behind}
+use Rattle.psa_text.specs.TextItems.{IsReference, is_less, is_greater, is_ampersand, is_quotation, is_apostrophe, is_decimal, is_hexadecimal, IsRaw, no_byte, and_byte, and_reference, referred, IsOpening, with_attribute, IsHead, head_name, head_more, behind_first, IsItem, is_text, is_instruction, is_comment, is_doctype, is_start, is_empty, is_end}
 use Rattle.psa_text.specs.ScannerMachine.{Inside, Reference, Ampersand, LetterA, Named, NumberSign, Digits, Lex, Between, Opened, InInstruction, Question, Bang, BangDash, InComment, Dash, DashDash, Word, InDoctype, Name, Gap, Slash, AttributeName, AttributeGap, Equals, Value, Refer, Behind, EndOpened, EndName, EndGap, Next, Broken, Within, Whole, doctype_letters, tag_on, name_on, end_on, counted, with_bytes, refers, refer_next, next}
 
 -- the end marks of an instruction and of a comment
@@ -127,8 +124,8 @@ module _ (head : List ℕ) (tag : Tag) (quote : ℕ) (name opening raw value : L
   goes : (part : List ℕ) (b : ℕ) (r : Reference) → InReference r (part ++ (b ∷ [])) → count ≡ length (raw ++ part) → Refers part b (refers inside r)
   goes part b r now counts = at_refer head tag quote name opening raw value (part ++ (b ∷ [])) (count + 1) r is opens raws now (rw (← append_assoc raw part (b ∷ []), length-push (raw ++ part) b, counts) refl)
 
-  ends : (part : List ℕ) (b : ℕ) (code : ℕ) → IsReference (part ++ (b ∷ [])) code → count ≡ length (raw ++ part) → Refers part b (Within (Value (with_bytes inside (encode_utf8 code))))
-  ends part b code now counts = at_value head tag quote name opening (raw ++ (part ++ (b ∷ []))) (value ++ encode_utf8 code) (count + 1) is opens (and_reference quote raw value (part ++ (b ∷ [])) code raws now) (rw (← append_assoc raw part (b ∷ []), length-push (raw ++ part) b, counts) refl)
+  ends : (part : List ℕ) (b : ℕ) (code : ℕ) → IsReference (part ++ (b ∷ [])) code → count ≡ length (raw ++ part) → Refers part b (Within (Value (with_bytes inside (referred code))))
+  ends part b code now counts = at_value head tag quote name opening (raw ++ (part ++ (b ∷ []))) (value ++ referred code) (count + 1) is opens (and_reference quote raw value (part ++ (b ∷ [])) code raws now) (rw (← append_assoc raw part (b ∷ []), length-push (raw ++ part) b, counts) refl)
 
   refer_went : (part : List ℕ) (r : Reference) (b : ℕ) → InReference r part → count ≡ length (raw ++ part) → Refers part b (refer_next inside r b)
   refer_went _ _ b ref_ampersand counts =

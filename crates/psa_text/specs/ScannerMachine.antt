@@ -1,12 +1,12 @@
 -- The machine that finds the items of a text byte by byte, as functions. The grammar of TextItems.antt is the
 -- definition; this is how the scanner meets it. It knows no limit: those are tests of the states that it reaches.
-use Rattle.std.specs.Prelude.{◌≡◌, ℕ, suc, ◌+◌, ◌*◌, Bool, true, false, if◌then◌else◌, not, ◌&&◌, ◌||◌, ◌==◌, nat_lt, nat_le, List, [], ◌∷◌, ◌++◌, length, encode_utf8}
+use Rattle.std.specs.Prelude.{ℕ, ◌+◌, ◌*◌, Bool, true, false, if◌then◌else◌, not, ◌&&◌, ◌||◌, ◌==◌, nat_lt, nat_le, List, [], ◌∷◌, ◌++◌, length}
 use Rattle.std.specs.Str.{is_utf8}
 use Rattle.psa_text.specs.declared.token.Tag.{Tag}
 use Rattle.psa_text.specs.declared.scanner_item.Item.{Item}
 use Rattle.psa_text.specs.declared.scanner_item.Item.TheVariants.{Start, Empty, End, Doctype, Text, Comment, Instruction}
-use Rattle.psa_text.specs.TextBytes.{is_blank, is_character, is_digit, is_name_start, is_name_byte, is_quote, is_doctype_byte, is_digit_of, digit_of, spaced, trimmed}
-use Rattle.psa_text.specs.TextItems.{with_attribute}
+use Rattle.psa_text.specs.TextBytes.{is_blank, is_character, is_name_start, is_name_byte, is_quote, is_doctype_byte, is_digit_of, digit_of, spaced, trimmed}
+use Rattle.psa_text.specs.TextItems.{referred, with_attribute}
 
 -- a value under way: its tag and attribute, its quote, how many bytes it has, and what they stand for
 pub record Inside : Type 0 where
@@ -83,10 +83,10 @@ refers v r = Within (Refer (counted v) r)
 abbrev pub refer_next : Inside → Reference → ℕ → Next
 refer_next v Ampersand b = if b == 35 then refers v NumberSign else if b == 108 then refers v (Named (116 ∷ []) 60) else if b == 103 then refers v (Named (116 ∷ []) 62) else if b == 113 then refers v (Named (117 ∷ 111 ∷ 116 ∷ []) 34) else if b == 97 then refers v LetterA else Broken
 refer_next v LetterA b = if b == 109 then refers v (Named (112 ∷ []) 38) else if b == 112 then refers v (Named (111 ∷ 115 ∷ []) 39) else Broken
-refer_next v (Named [] code) b = if b == 59 then Within (Value (with_bytes v (encode_utf8 code))) else Broken
+refer_next v (Named [] code) b = if b == 59 then Within (Value (with_bytes v (referred code))) else Broken
 refer_next v (Named (c ∷ rest) code) b = if b == c then refers v (Named rest code) else Broken
 refer_next v NumberSign b = if b == 120 then refers v (Digits 16 0 0) else if is_digit_of 10 b then refers v (Digits 10 1 (10 * 0 + digit_of b)) else Broken
-refer_next v (Digits base count number) b = if is_digit_of base b && nat_lt count 8 then refers v (Digits base (count + 1) (base * number + digit_of b)) else if (b == 59) && nat_lt 0 count then Within (Value (with_bytes v (encode_utf8 number))) else Broken
+refer_next v (Digits base count number) b = if is_digit_of base b && nat_lt count 8 then refers v (Digits base (count + 1) (base * number + digit_of b)) else if (b == 59) && nat_lt 0 count then Within (Value (with_bytes v (referred number))) else Broken
 
 abbrev pub next : Lex → ℕ → Next
 next Between b = if b == 60 then Within Opened else Whole (Text b)

@@ -1,5 +1,5 @@
 -- What the scanner's types show: the state of the machine that they stand for, and what a byte does to it.
-use Rattle.std.specs.Prelude.{◌≡◌, ℕ, ◌+◌, ◌^◌, ◌<◌, ◌≤◌, Bool, true, false, if◌then◌else◌, not, List, [], ◌∷◌, ◌++◌, length, drop, Option, Some, None, Result, Ok, Err, encode_utf8}
+use Rattle.std.specs.Prelude.{◌≡◌, ℕ, ◌+◌, ◌^◌, ◌<◌, ◌≤◌, true, false, if◌then◌else◌, List, [], ◌∷◌, ◌++◌, length, drop, Option, Some, None, Result, Ok, Err, encode_utf8}
 use Rattle.std.specs.Str.{is_utf8}
 use Rattle.psa_text.specs.declared.token.Tag.{Tag}
 use Rattle.psa_text.specs.declared.scanner_item.Item.{Item}
@@ -12,7 +12,7 @@ use Rattle.psa_text.specs.declared.scanner_place.Entity.TheVariants as entity
 use Rattle.psa_text.specs.declared.scanner_lexer.TokenError.{TokenError}
 use Rattle.psa_text.specs.declared.scanner_lexer.TokenError.TheVariants.{Bad, Long, Memory}
 use Rattle.psa_text.specs.TextBytes.{is_character, trimmed}
-use Rattle.psa_text.specs.TextItems.{with_attribute}
+use Rattle.psa_text.specs.TextItems.{referred, with_attribute}
 use Rattle.psa_text.specs.ScannerMachine as machine
 
 abbrev pub entity_letters : Entity → List ℕ
@@ -161,7 +161,7 @@ EndsReference code old now result = GoesTo (machine.Value (machine.with_bytes (i
 
 -- the `;` behind the digits of a reference
 abbrev pub EndsNumber : Held → Held → Result (Option Item) TokenError → Type 0
-EndsNumber old now result = Goes (if is_character old.number then judged (machine.Within (machine.Value (machine.with_bytes (inside_of old) (encode_utf8 old.number)))) else IsBad) now result
+EndsNumber old now result = Goes (if is_character old.number then judged (machine.Within (machine.Value (machine.with_bytes (inside_of old) (referred old.number)))) else IsBad) now result
 
 -- the closing quote of a value
 abbrev pub EndsValue : Held → Held → Result (Option Item) TokenError → Type 0

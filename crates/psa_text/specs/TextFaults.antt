@@ -1,7 +1,7 @@
 -- The faults of a text. A fault is decided at a byte; the fault of a text is that of its earliest byte that decides
 -- one, else the fault at its end. (The profile of XML 1.0 and its limits are this project's own. Here whole lists of
 -- bytes and what may follow them are compared; no machine is spoken of.)
-use Rattle.std.specs.Prelude.{◌≡◌, ◌≢◌, ℕ, ◌+◌, ◌<◌, ◌≤◌, Bool, true, false, if◌then◌else◌, not, ◌&&◌, ◌||◌, ◌==◌, nat_le, nat_lt, List, [], ◌∷◌, ◌++◌, length, count_by}
+use Rattle.std.specs.Prelude.{◌≡◌, ◌≢◌, ℕ, ◌<◌, ◌≤◌, Bool, true, false, if◌then◌else◌, not, ◌==◌, List, [], ◌∷◌, ◌++◌, length, count_by}
 use Rattle.std.specs.Str.{is_utf8}
 use Rattle.psa_text.specs.declared.tree.Element.{Element}
 use Rattle.psa_text.specs.declared.token.Tag.{Tag}
@@ -10,7 +10,7 @@ use Rattle.psa_text.specs.declared.scanner_item.Item.TheVariants.{Start, Empty, 
 use Rattle.psa_text.specs.declared.scanner_error.TextFault.{TextFault}
 use Rattle.psa_text.specs.declared.scanner_error.TextKind.{TextKind}
 use Rattle.psa_text.specs.declared.scanner_error.TextKind.TheVariants.{LongFile, BadMarkup, LongToken, BadNesting}
-use Rattle.psa_text.specs.TextBytes.{AllPass, AreBlanks, IsName, is_character, is_name_start, is_name_byte, trimmed, line_after}
+use Rattle.psa_text.specs.TextBytes.{AllPass, AreBlanks, IsName, is_character, is_name_start, is_name_byte, line_after}
 use Rattle.psa_text.specs.TextItems.{IsReference, IsRaw, IsOpening, IsHead, IsItem, Placed, AreItems, IsFront}
 use Rattle.psa_text.specs.TextTree.{IsDocument, IsDocumentFront}
 
@@ -62,11 +62,11 @@ pub data IsLong : List ℕ → Type 0 where
   many_attributes : (head : List ℕ) (tag : Tag) (blanks name : List ℕ) → IsHead head tag → 32 ≤ length tag.attributes → blanks ≢ [] → AreBlanks blanks → IsName name → IsLong (head ++ (blanks ++ name))
   long_value : (head : List ℕ) (tag : Tag) (quote : ℕ) (name opening raw : List ℕ) → IsHead head tag → IsOpening quote name opening → AllPass (λ b. not (b == quote)) raw → 512 < length raw → IsLong (head ++ (opening ++ raw))
 
--- The byte behind the part ends a name or a value that isn't UTF-8, or a reference to no character. (A value is judged
--- as it is read, which is the same: a reference stands for whole characters.)
+-- The byte behind the part ends a name that isn't UTF-8, a value whose bytes between the quotes aren't, or a reference to
+-- no character.
 pub data IsBadEnd : List ℕ → ℕ → Type 0 where
   bad_name : (part name : List ℕ) (b : ℕ) → EndsInName part name → is_name_byte b ≡ false → is_utf8 name ≡ false → IsBadEnd part b
-  bad_value : (head : List ℕ) (tag : Tag) (quote : ℕ) (name opening raw value : List ℕ) → IsHead head tag → IsOpening quote name opening → IsRaw quote raw value → is_utf8 (trimmed value) ≡ false → IsBadEnd (head ++ (opening ++ raw)) quote
+  bad_value : (head : List ℕ) (tag : Tag) (quote : ℕ) (name opening raw value : List ℕ) → IsHead head tag → IsOpening quote name opening → IsRaw quote raw value → is_utf8 raw ≡ false → IsBadEnd (head ++ (opening ++ raw)) quote
   bad_reference : (head : List ℕ) (tag : Tag) (quote : ℕ) (name opening raw value part reference : List ℕ) (code b : ℕ) → IsHead head tag → IsOpening quote name opening → IsRaw quote raw value → IsReference reference code → is_character code ≡ false → part ++ (b ∷ []) ≡ head ++ (opening ++ (raw ++ reference)) → IsBadEnd part b
 
 -- a start or empty tag

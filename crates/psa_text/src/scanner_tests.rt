@@ -219,7 +219,7 @@ fn reads_trees(rt: HostRuntime) {
 }
 
 /// Texts, their faults, and which of their bytes decides it, counted from 1; 0 for their end.
-const FAULTS: [(&[u8], &str, usize); 50] = [
+const FAULTS: [(&[u8], &str, usize); 51] = [
     (b"", "bad nesting 1", 0),
     (b"\xEF", "bad nesting 1", 0),
     (b"\xEF\xBB", "bad nesting 1", 0),
@@ -269,6 +269,7 @@ const FAULTS: [(&[u8], &str, usize); 50] = [
     (b"<a\xFF >", "bad markup 1", 4),
     (b"<a></a\xFF >", "bad markup 1", 8),
     (b"<a b='\xC3'", "bad markup 1", 8),
+    (b"<a b='\xC3&lt;\xA9'", "bad markup 1", 13),
     (b"<a \xC3='", "bad markup 1", 5),
 ];
 
