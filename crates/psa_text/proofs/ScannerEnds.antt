@@ -1,5 +1,5 @@
 -- The end of a text: its tree, or the fault there.
-use Rattle.std.specs.Prelude.{◌≡◌, ◌≢◌, ℕ, Bool, true, false, if◌then◌else◌, List, [], ◌∷◌, ◌++◌, Option, Some, None, Result, Ok, Err}
+use Rattle.std.specs.Prelude.{◌≡◌, ℕ, true, false, List, [], Option, Some, None, Result, Ok, Err}
 use Rattle.std.proofs.Common.{refl, sym, ◌∙◌, ap, subst, append-nil}
 use Rattle.psa_text.specs.declared.tree.Element.{Element}
 use Rattle.psa_text.specs.declared.scanner_error.TextFault.{TextFault}
@@ -13,8 +13,8 @@ use Rattle.psa_text.specs.ScannerMachine.{Lex, Between, is_between}
 use Rattle.psa_text.specs.ScannerState.{Scan, start_scan, reads, root_or, ended}
 use Rattle.psa_text.proofs.ScannerSteps.{choose, Reached, at_between}
 use Rattle.psa_text.proofs.ScannerTrees.{IsOpen, open_root, open_under, Stands, before_root, in_root, behind_root, nests, document_nests}
-use Rattle.psa_text.proofs.ScannerReadings.{Reading, first, read_all, Standing, standing, within}
-use Rattle.psa_text.proofs.ScannerScans.{Fits, FitsAll, fits, no_fault, line_is, nested_stands, scan_at}
+use Rattle.psa_text.proofs.ScannerReadings.{Reading, Standing, standing, within}
+use Rattle.psa_text.proofs.ScannerScans.{fits, no_fault, line_is, nested_stands}
 
 some_same : {A : Type 0} {x y : A} → Some x ≡ Some y → x ≡ y
 some_same h = cc

@@ -1,19 +1,16 @@
 -- What the machine reads: the items so far, and where in the next. By both directions of the grammar.
-use Rattle.std.specs.Prelude.{◌≡◌, ◌≢◌, ℕ, suc, ◌+◌, ◌≤◌, ◌<◌, Bool, true, false, if◌then◌else◌, not, ◌&&◌, ◌||◌, ◌==◌, nat_lt, nat_le, List, [], ◌∷◌, ◌++◌, length, Option, Some, None, count_by}
+use Rattle.std.specs.Prelude.{◌≡◌, ◌≢◌, ℕ, ◌+◌, Bool, true, false, if◌then◌else◌, ◌==◌, List, [], ◌∷◌, ◌++◌, Option, Some, None, count_by}
 use Rattle.std.specs.List.{fold}
-use Rattle.std.specs.Str.{is_utf8}
 use Rattle.std.proofs.Common.{refl, sym, ◌∙◌, ap, subst, arith, append_assoc, append-nil}
-use Rattle.std.proofs.lemmas.Bool.Decides.{nat_tests}
-use Rattle.psa_text.specs.declared.token.Tag.{Tag}
 use Rattle.psa_text.specs.declared.scanner_item.Item.{Item}
 use Rattle.psa_text.specs.TextBytes.{line_after}
-use Rattle.psa_text.specs.TextItems.{IsItem, Placed, AreItems, no_item, and_item, IsFront}
-use Rattle.psa_text.specs.TextFaults.{IsPart, IsWithin}
+use Rattle.psa_text.specs.TextItems.{Placed, AreItems, no_item, and_item, IsFront}
+use Rattle.psa_text.specs.TextFaults.{IsWithin}
 use Rattle.psa_text.specs.ScannerMachine.{Lex, Between, Next, Broken, Within, Whole, next}
 use Rattle.psa_text.specs.ScannerState.{line_on}
 use Rattle.psa_text.proofs.ScannerSteps.{Reached, at_between, Went, item_step}
-use Rattle.psa_text.proofs.ScannerCloses.{Closes, closes}
-use Rattle.psa_text.proofs.ScannerRuns.{ended, run, onward, over, item_run}
+use Rattle.psa_text.proofs.ScannerCloses.{closes}
+use Rattle.psa_text.proofs.ScannerRuns.{run, onward, over, item_run}
 
 -- the items, the line of the next byte, that of the item under way or next, and where in it
 pub record Reading : Type 0 where

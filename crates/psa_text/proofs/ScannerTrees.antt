@@ -1,19 +1,19 @@
 -- Nesting item by item meets the grammar of the tree: what a state says of the items so far, how every state can be
 -- closed, and that every document is nested.
-use Rattle.std.specs.Prelude.{◌≡◌, ◌≢◌, ℕ, zero, suc, ◌+◌, ◌≤◌, ◌<◌, Bool, true, false, if◌then◌else◌, ◌||◌, nat_le, List, [], ◌∷◌, ◌++◌, length, Option, Some, None, is_some}
+use Rattle.std.specs.Prelude.{◌≡◌, ℕ, zero, suc, ◌+◌, ◌≤◌, Bool, true, false, ◌||◌, nat_le, List, [], ◌∷◌, ◌++◌, length, Option, Some, None}
 use Rattle.std.specs.Str.{bytes_eq}
-use Rattle.std.proofs.Common.{refl, sym, ◌∙◌, ap, subst, arith, append_assoc, append-nil}
+use Rattle.std.proofs.Common.{refl, sym, ◌∙◌, ap, arith, append_assoc, append-nil}
 use Rattle.std.proofs.lemmas.Bool.Decides.{nat_tests}
-use Rattle.psa_text.specs.declared.tree.Element.{Element, out-Element, roll-Element, out-roll-Element}
+use Rattle.psa_text.specs.declared.tree.Element.{Element, out-Element, out-roll-Element}
 use Rattle.psa_text.specs.declared.token.Tag.{Tag}
 use Rattle.psa_text.specs.declared.scanner_item.Item.{Item}
 use Rattle.psa_text.specs.declared.scanner_item.Item.TheVariants.{Start, Empty, End, Doctype, Text, Comment, Instruction}
 use Rattle.psa_text.specs.Tree.{element_of}
-use Rattle.psa_text.specs.Nesting.{State, at_start, with_child, placed_in, placed, closed_in}
+use Rattle.psa_text.specs.Nesting.{State, at_start, with_child, placed_in, closed_in}
 use Rattle.psa_text.specs.TextBytes.{AllPass, is_blank}
 use Rattle.psa_text.specs.TextItems.{Placed}
 use Rattle.psa_text.specs.TextTree.{is_label, is_passed, IsElement, is_empty, is_around, AreElements, no_element, and_passed, and_element, is_before_root, is_behind_root, IsDocument, IsDocumentFront}
-use Rattle.psa_text.specs.ScannerNesting.{in_label, is_some_open, has_begun, nest}
+use Rattle.psa_text.specs.ScannerNesting.{in_label, is_some_open, nest}
 use Rattle.psa_text.proofs.ScannerSteps.{choose}
 use Rattle.psa_text.proofs.ScannerBytes.{same_bytes}
 

@@ -6,7 +6,6 @@ use Rattle.psa_text.specs.declared.scanner_item.Item.{Item}
 use Rattle.psa_text.specs.declared.scanner_item.Item.TheVariants.{Start, Empty, End, Doctype, Text, Comment, Instruction}
 use Rattle.psa_text.specs.Nesting.{State, stepped}
 use Rattle.psa_text.specs.TextBytes.{is_blank}
-use Rattle.psa_text.specs.TextItems.{Placed}
 use Rattle.psa_text.specs.TextTree.{is_label}
 
 -- the innermost open element is a label

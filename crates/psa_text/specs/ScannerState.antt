@@ -1,6 +1,6 @@
 -- What a scanner has read, and what a call of it answers. The byte-by-byte functions here are the scanner's own way;
 -- what they mean is said by TextFaults.antt alone.
-use Rattle.std.specs.Prelude.{◌≡◌, ℕ, ◌+◌, ◌<◌, ◌≤◌, Bool, true, false, if◌then◌else◌, ◌&&◌, ◌==◌, List, [], ◌∷◌, ◌++◌, Option, Some, None, Result, Ok, Err}
+use Rattle.std.specs.Prelude.{◌≡◌, ℕ, ◌+◌, if◌then◌else◌, ◌&&◌, ◌==◌, List, [], ◌∷◌, Option, Some, None, Result, Ok, Err}
 use Rattle.psa_text.specs.declared.tree.Element.{Element}
 use Rattle.psa_text.specs.declared.tree.Document.{Document}
 use Rattle.psa_text.specs.declared.scanner_state.Scanner.{Scanner}
@@ -8,7 +8,6 @@ use Rattle.psa_text.specs.declared.scanner_item.Item.{Item}
 use Rattle.psa_text.specs.declared.scanner_mark.Mark.{Mark}
 use Rattle.psa_text.specs.declared.scanner_mark.Mark.TheVariants.{Unread, FirstByte, SecondByte, Passed}
 use Rattle.psa_text.specs.declared.scanner_error.TextFault.{TextFault}
-use Rattle.psa_text.specs.declared.scanner_error.TextKind.{TextKind}
 use Rattle.psa_text.specs.declared.scanner_error.TextKind.TheVariants.{LongFile, BadMarkup, LongToken, BadNesting}
 use Rattle.psa_text.specs.declared.scanner_error.TextError.{TextError}
 use Rattle.psa_text.specs.declared.scanner_error.TextError.TheVariants.{Fault, Memory}

@@ -1,6 +1,6 @@
 -- The bytes of a text and their classes. (XML 1.0, productions 3 to 5, 25, 66 and 68; that a byte of 128 or more may
 -- stand anywhere in a name, and the greatest numbers of digits, are this project's own.)
-use Rattle.std.specs.Prelude.{◌≡◌, ℕ, ◌+◌, ◌*◌, ◌-◌, Bool, true, false, if◌then◌else◌, not, ◌&&◌, ◌||◌, ◌==◌, nat_le, nat_lt, List, [], ◌∷◌, ◌++◌, reverse, count_by, Option, Some, None, ◌<◌}
+use Rattle.std.specs.Prelude.{◌≡◌, ℕ, ◌+◌, ◌*◌, ◌-◌, Bool, true, false, if◌then◌else◌, not, ◌&&◌, ◌||◌, ◌==◌, nat_le, nat_lt, List, [], ◌∷◌, reverse, count_by, Option, Some, None, ◌<◌}
 use Rattle.std.specs.List.{fold}
 
 -- each passes the test

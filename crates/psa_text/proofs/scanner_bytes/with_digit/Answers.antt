@@ -1,4 +1,4 @@
-use Rattle.std.proofs.Common.{◌*◌, ◌≤◌, ◌+◌, ◌<◌, ◌^◌, arith}
+use Rattle.std.proofs.Common.{◌*◌, ◌≤◌, arith}
 use Rattle.std.proofs.Math.Nat.{mul-le-mul_right}
 use Rattle.psa_text.proofs.ScannerBytes.{digits_fit, more_digits}
 use Rattle.psa_text.proofs.scanner_bytes.with_digit.Goals as goal

@@ -1,5 +1,4 @@
-use Rattle.std.proofs.Common.{true, false, ◌∙◌, sym, subst, Bool}
-use Rattle.psa_text.specs.ScannerSpans.{IsBehind, is_quiet}
+use Rattle.std.proofs.Common.{◌∙◌, sym}
 use Rattle.psa_text.proofs.scanner_state.Scanner.behind_texts.Goals as goal
 
 pub returns-then-is_in_label : goal.returns-then-is_in_label
