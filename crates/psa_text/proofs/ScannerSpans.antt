@@ -1,9 +1,8 @@
 -- Spans are read as byte by byte.
-use Rattle.std.specs.Prelude.{◌≡◌, ◌≢◌, ℕ, ◌+◌, ◌≤◌, ◌<◌, Bool, true, false, if◌then◌else◌, not, ◌&&◌, ◌||◌, ◌==◌, List, [], ◌∷◌, ◌++◌, length, take, drop, ◌-◌, count_by, Some, None, Ok}
-use Rattle.std.proofs.Common.{refl, sym, ◌∙◌, ap, arith, add-zero, append_assoc, length-append, length-take-le}
+use Rattle.std.specs.Prelude.{◌≡◌, ◌≢◌, ℕ, ◌+◌, ◌≤◌, ◌<◌, Bool, true, false, if◌then◌else◌, not, ◌&&◌, ◌||◌, ◌==◌, List, [], ◌∷◌, ◌++◌, length, take, ◌-◌, count_by, Some, None, Ok}
+use Rattle.std.proofs.Common.{refl, sym, ◌∙◌, ap, arith, add-zero, append_assoc, length-append}
 use Rattle.std.proofs.lemmas.Bool.Decides.{nat_tests}
-use Rattle.std.proofs.lemmas.List.{take-append-drop}
-use Rattle.std.proofs.Math.Seq.{take-append_seam, drop-append_seam}
+use Rattle.std.proofs.Math.Seq.{take-append_seam}
 use Rattle.std.proofs.lemmas.List.Sums.{sum_by-cons}
 use Rattle.psa_text.specs.declared.scanner_mark.Mark.{Mark}
 use Rattle.psa_text.specs.declared.scanner_mark.Mark.TheVariants.{Passed}
@@ -119,7 +118,7 @@ within_more p q r bytes rest more b h is other goes = record {
 }
 
 -- bytes that leave the machine where it is
-pub within_same : (p : Lex) (test : ℕ → Bool) → ((b : ℕ) → test b ≡ true → (begins_tag p b ≡ false) × (judge p b ≡ On p)) → (span : List ℕ) → AllPass test span → within p span ≡ Some p
+within_same : (p : Lex) (test : ℕ → Bool) → ((b : ℕ) → test b ≡ true → (begins_tag p b ≡ false) × (judge p b ≡ On p)) → (span : List ℕ) → AllPass test span → within p span ≡ Some p
 within_same p test stays [] passes = refl
 within_same p test stays (b ∷ bs) passes = rw ((stays b passes.0).0, (stays b passes.0).1) (within_same p test stays bs passes.1)
 
@@ -169,26 +168,3 @@ front_is bytes span rest e = ap (λ n. take n bytes) amount ∙ ap (take (length
 
     amount : length bytes - length rest ≡ length span
     amount = omega (arith, lengths)
-
--- a span of the near bytes is one of all bytes
-pub span_near : (s t : Scan) (bytes rest : List ℕ) (room : ℕ) → room ≤ length bytes → ReadsSpan s (take room bytes) t rest → ReadsSpan s bytes t (drop (room - length rest) bytes)
-span_near s t bytes rest room fits h = record {
-  span = h.span;
-  joined = whole ∙ ap (λ xs. h.span ++ xs) (sym behind);
-  read = h.read;
-}
-  where
-    whole : bytes ≡ h.span ++ (rest ++ drop room bytes)
-    whole = sym (take-append-drop room bytes) ∙ ap (λ xs. xs ++ drop room bytes) h.joined ∙ append_assoc h.span rest (drop room bytes)
-
-    lengths : length (take room bytes) ≡ length h.span + length rest
-    lengths = ap length h.joined ∙ length-append h.span rest
-
-    near : length (take room bytes) ≡ room
-    near = length-take-le room bytes fits
-
-    amount : room - length rest ≡ length h.span
-    amount = omega (arith, lengths, near)
-
-    behind : drop (room - length rest) bytes ≡ rest ++ drop room bytes
-    behind = ap (λ n. drop n bytes) amount ∙ ap (drop (length h.span)) whole ∙ drop-append_seam h.span (rest ++ drop room bytes)

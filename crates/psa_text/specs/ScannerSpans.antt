@@ -58,13 +58,6 @@ is_quiet false b = is_blank b
 abbrev pub lines_on : ℕ → List ℕ → ℕ
 lines_on line bytes = line + count_by (λ b. b == 10) bytes
 
--- the scan after texts, and after bytes that stay within an item
-abbrev pub behind_texts : Scan → List ℕ → Scan
-behind_texts s span = record s { count = s.count + length span; line = lines_on s.line span; start = lines_on s.line span }
-
-abbrev pub behind_span : Scan → List ℕ → Lex → Scan
-behind_span s span q = record s { count = s.count + length span; line = lines_on s.line span; lex = q }
-
 -- Bytes and their lines are counted.
 pub record CountsAll (bytes : List ℕ) (old now : Scanner) : Type 0 where
   pub scan : scan_of now ≡ record (scan_of old) { count = old.count + length bytes; line = lines_on old.line bytes }
