@@ -1,0 +1,2 @@
+-- What the proof of a caller cites.
+pub use Rattle.psa_bdd.proofs.Ranks.{ranks-combined}
