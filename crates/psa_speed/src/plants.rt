@@ -20,7 +20,7 @@ const TOGETHER: u32 = 3;
 
 /// Ranks of a row: for each of these plants a component of each train, a support of two events that two trains
 /// share, and one of up to three events of a train of its own.
-const ROW: u32 = 27;
+const ROW: u32 = 9 * TOGETHER;
 
 /// Some component fails, of those whose ranks stand a row apart.
 fn components<L: Ledger>(
