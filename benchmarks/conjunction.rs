@@ -1,4 +1,4 @@
-//! The workload of crates/psa_speed in plain Rust, to compare: rustc -O benchmarks/conjunction.rs
+//! The workload `conjunction` of crates/psa_speed in plain Rust, to compare: rustc -O benchmarks/conjunction.rs
 //! The same table and the same recursion, with HashMaps under a fast hash and a Vec of nodes.
 use std::collections::HashMap;
 use std::hash::{BuildHasherDefault, Hash, Hasher};

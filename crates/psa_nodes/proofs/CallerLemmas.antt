@@ -9,3 +9,4 @@ pub use Rattle.psa_nodes.proofs.Entries.{right-kept, right-has}
 pub use Rattle.psa_nodes.proofs.Makes.{same-path}
 pub use Rattle.psa_nodes.proofs.Steady.{key_level-kept, key_level-right, progress-own, progress-then, progress-lacks, progress-remember, progress-node, progress-wide, call-same, call-done, call-memory, call-error, call-then, call-wide, call-node, made-grown, some-inner}
 pub use Rattle.psa_nodes.proofs.Cofactors.{assigned-past, high-cofactor, low-cofactor}
+pub use Rattle.psa_nodes.proofs.Ranks.{ranks-made, fit-before, truth-below, truth-depends}

@@ -11,3 +11,4 @@ pub mod Makes
 pub mod Steady
 pub mod Cofactors
 pub mod CallerLemmas
+pub mod Ranks

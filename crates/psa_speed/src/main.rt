@@ -1,33 +1,69 @@
-//! A workload for the node table and for conjunction, to time: the conjunction of all clauses "event i or
-//! event i + gap occurs". Its words are the number of events and the gap, 24 and 8 where none are given.
+//! Workloads for the node table, to time. `conjunction EVENTS GAP` is the conjunction of all clauses "event i or
+//! event i + gap occurs"; `cut-sets PLANTS LIMIT..` are the minimal cut sets within each limit, one after another on
+//! one table, of plants of which one fails. With no words it runs both, small.
 #![tactic(auto)]
 
-mod work;
+mod clauses;
+mod diagrams;
+mod plants;
 
-use psa_nodes::NodeTable;
+use psa_nodes::{NodeId, NodeTable};
 use std::marker::Brand;
 use std::sync::ledger::Blank;
 use std::{env, io};
 
-/// The number that a word spells, or the default where it spells none.
-fn number(word: Option<String>, default: u32) -> u32 {
-    match word {
-        Some(text) => text.parse().unwrap_or(default),
-        None => default,
+fn main(rt: HostRuntime) -> io::Result<()> {
+    let mut words = Vec::new(rt.alloc());
+    for word in env::args(&rt)?.skip(1) {
+        words.push(word)?;
+    }
+    match words.as_slice() {
+        [name, events, gap] if name.as_str() == "conjunction" => conjunction(
+            &rt,
+            events.as_str().parse().unwrap_or(24),
+            gap.as_str().parse().unwrap_or(8),
+        ),
+        [name, count, limits @ ..] if name.as_str() == "cut-sets" => {
+            let mut numbers = Vec::new(rt.alloc());
+            for limit in limits {
+                numbers.push(limit.as_str().parse().unwrap_or(20))?;
+            }
+            cut_sets(&rt, count.as_str().parse().unwrap_or(8), numbers.as_slice())
+        }
+        _ => {
+            conjunction(&rt, 24, 8)?;
+            cut_sets(&rt, 3, &[20, 6])
+        }
     }
 }
 
-fn main(rt: HostRuntime) -> io::Result<()> {
-    let mut words = env::args(&rt)?;
-    let _program = words.next();
-    let events = number(words.next(), 24);
-    let gap = number(words.next(), 8);
+/// The conjunction of clauses.
+fn conjunction(rt: &HostRuntime, events: u32, gap: u32) -> io::Result<()> {
     let mut table = NodeTable::new(rt.alloc());
-    match work::conjunction::<Brand>(&mut table, events, gap, Blank::new(1)) {
-        Ok(root) => {
-            let (nodes, results, root) = (table.len(), table.entries(), root.0);
-            println!(rt; "{nodes} nodes, {results} remembered results, root {root}")
-        }
+    match clauses::conjunction::<Brand>(&mut table, events, gap, Blank::new(1)) {
+        Ok(root) => tell(rt, &table, root),
         Err(_) => println!(rt; "out of memory"),
     }
+}
+
+/// The minimal cut sets of plants, within each limit.
+fn cut_sets(rt: &HostRuntime, count: u16, limits: &[u8]) -> io::Result<()> {
+    let mut table = NodeTable::new(rt.alloc());
+    let Ok(root) = plants::plants::<Brand>(&mut table, count, Blank::new(1)) else {
+        return println!(rt; "out of memory");
+    };
+    tell(rt, &table, root)?;
+    for limit in limits {
+        match plants::cut_sets::<Brand>(&mut table, root, *limit, Blank::new(1)) {
+            Ok(family) => tell(rt, &table, family)?,
+            Err(_) => return println!(rt; "out of memory"),
+        }
+    }
+    Ok(())
+}
+
+/// Prints the size of a table and a node of it.
+fn tell(rt: &HostRuntime, table: &NodeTable, root: NodeId) -> io::Result<()> {
+    let (nodes, results, root) = (table.len(), table.entries(), root.0);
+    println!(rt; "{nodes} nodes, {results} remembered results, root {root}")
 }

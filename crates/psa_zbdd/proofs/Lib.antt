@@ -11,3 +11,4 @@ pub mod Decompose
 pub mod Cofactored
 pub mod CutSteps
 pub mod Ends
+pub mod CallerLemmas

@@ -1,10 +1,11 @@
 -- From where the nodes of a decomposition of a truth into minimal cut sets come (Rauzy).
-use Rattle.std.specs.Prelude.{◌≡◌, ℕ, ◌<◌, ◌^◌, Bool, true, List, Some}
+use Rattle.std.specs.Prelude.{◌≡◌, ℕ, ◌^◌, Bool, true, List}
 use Rattle.psa_logic.specs.Products.{IsCutProduct}
 use Rattle.psa_nodes.specs.declared.node.Kind.{Kind}
-use Rattle.psa_nodes.specs.declared.node.Kind.TheVariants.{Bdd, Zbdd}
+use Rattle.psa_nodes.specs.declared.node.Kind.TheVariants.{Zbdd}
 use Rattle.psa_nodes.specs.declared.node.Node.{Node}
-use Rattle.psa_nodes.specs.Readings.{Reading, node_at}
+use Rattle.psa_nodes.specs.Readings.{Reading}
+use Rattle.psa_nodes.specs.Nodes.{AreRanksBelow}
 use Rattle.psa_nodes.specs.Cofactors.{cofactor}
 use Rattle.psa_zbdd.specs.Tails.{tail_from}
 
@@ -23,4 +24,4 @@ pub record IsCutTails (f : (ℕ → Bool) → Bool) (limit : ℕ) (kind : Kind) 
 
 -- twice the rank of each decision diagram is a literal number of 32 bits
 abbrev pub AreRanksSmall : List Node → Type 0
-AreRanksSmall ns = (id : ℕ) (n : Node) → node_at ns id ≡ Some n → n.kind ≡ Bdd → n.var < 2 ^ 31
+AreRanksSmall ns = AreRanksBelow (2 ^ 31) ns
