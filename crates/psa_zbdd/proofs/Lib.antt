@@ -11,3 +11,5 @@ pub mod Decompose
 pub mod Cofactored
 pub mod CutSteps
 pub mod Ends
+pub mod ShortMembers
+pub mod ShortSteps

@@ -1,10 +1,15 @@
--- From where the nodes of a decomposition of a truth into minimal cut sets come (Rauzy).
-use Rattle.std.specs.Prelude.{◌≡◌, ℕ, ◌<◌, ◌^◌, Bool, true, List, Some}
-use Rattle.psa_logic.specs.Products.{IsCutProduct}
+-- From where the nodes of a decomposition of a truth into minimal cut sets come (Rauzy), and how its results
+-- are remembered (this project's own).
+use Rattle.std.specs.Prelude.{◌≡◌, ℕ, ◌≤◌, ◌<◌, ◌^◌, Bool, true, List, Some}
+use Rattle.psa_logic.specs.Products.{positive_product, IsCutProduct}
 use Rattle.psa_nodes.specs.declared.node.Kind.{Kind}
 use Rattle.psa_nodes.specs.declared.node.Kind.TheVariants.{Bdd, Zbdd}
 use Rattle.psa_nodes.specs.declared.node.Node.{Node}
+use Rattle.psa_nodes.specs.declared.node.NodeId.{NodeId}
+use Rattle.psa_nodes.specs.declared.node.MemoKey.{MemoKey}
+use Rattle.psa_nodes.specs.declared.node.Operation.TheVariants.{MinimalOfBdd}
 use Rattle.psa_nodes.specs.Readings.{Reading, node_at}
+use Rattle.psa_nodes.specs.Progress.{IsResult}
 use Rattle.psa_nodes.specs.Cofactors.{cofactor}
 use Rattle.psa_zbdd.specs.Tails.{tail_from}
 
@@ -24,3 +29,18 @@ pub record IsCutTails (f : (ℕ → Bool) → Bool) (limit : ℕ) (kind : Kind) 
 -- twice the rank of each decision diagram is a literal number of 32 bits
 abbrev pub AreRanksSmall : List Node → Type 0
 AreRanksSmall ns = (id : ℕ) (n : Node) → node_at ns id ≡ Some n → n.kind ≡ Bdd → n.var < 2 ^ 31
+
+-- what the cut sets of a diagram within a limit are remembered by
+abbrev pub cut_key : NodeId → ℕ → MemoKey
+cut_key root limit = record { operation = MinimalOfBdd; left = root; right = record { 0 = 0 }; limit = limit }
+
+-- the family holds the cut sets of a diagram within some limit from `limit` to `most`
+pub record AreWiderCuts (ns : List Node) (root limit most family : ℕ) : Type 0 where
+  pub bound : ℕ
+  pub from : limit ≤ bound
+  pub to : bound ≤ most
+  pub cuts : IsResult MinimalOfBdd bound ns root 0 family
+
+-- each set of the family is a product of events that occur
+abbrev pub ArePositive : (List ℕ → Bool) → Type 0
+ArePositive family = (set : List ℕ) → family set ≡ true → (ranks : List ℕ) × (set ≡ positive_product ranks)
