@@ -1,37 +1,37 @@
 -- The steps of the recursion of the minimal cut sets.
-use Rattle.std.proofs.Common.{◌≡◌, ◌↔◌, ℕ, ◌+◌, ◌-◌, ◌*◌, ◌^◌, ◌<◌, ◌≤◌, Bool, true, false, List, Some, Result, Ok, if◌then◌else◌, refl, sym, ap, subst, ◌∙◌, inl, inr, arith}
+use Rattle.std.proofs.Common.{◌≡◌, ◌↔◌, ◌⊎◌, ℕ, zero, suc, ◌+◌, ◌-◌, ◌*◌, ◌^◌, ◌<◌, ◌≤◌, Bool, true, false, List, [], Some, Result, Ok, if◌then◌else◌, refl, sym, ap, subst, ◌∙◌, inl, inr, arith}
 use Rattle.std.proofs.lemmas.Bool.{false≢true}
 use Rattle.psa_logic.specs.Products.{IsCutProduct}
+use Rattle.psa_logic.proofs.Parts.{part-nil}
 use Rattle.psa_nodes.specs.declared.node.Kind.{Kind}
 use Rattle.psa_nodes.specs.declared.node.Kind.TheVariants.{Bdd, Zbdd}
 use Rattle.psa_nodes.specs.declared.node.Node.{Node}
 use Rattle.psa_nodes.specs.declared.node.NodeId.{NodeId}
 use Rattle.psa_nodes.specs.declared.node.NodeError.{NodeError}
 use Rattle.psa_nodes.specs.declared.node.MemoKey.{MemoKey}
-use Rattle.psa_nodes.specs.declared.node.Operation.TheVariants.{MinimalOfBdd, Without}
+use Rattle.psa_nodes.specs.declared.node.Operation.TheVariants.{MinimalOfBdd, Product, Without}
 use Rattle.psa_nodes.specs.Readings.{Reading, node_at, truth, has, joined, stands, level, first_literal}
 use Rattle.psa_nodes.specs.Nodes.{AllFit, Grown}
 use Rattle.psa_nodes.specs.Families.{Spares}
 use Rattle.psa_nodes.specs.Table.{Table, Lacks}
 use Rattle.psa_nodes.specs.Progress.{IsCall, IsResult, key_level}
-use Rattle.psa_nodes.proofs.CallerLemmas.{At, at, stands-below, stands-kept, stands-weaker, stands-terminal, stands-at, stands-node, level-node, level-stands, node_at-kept, truth-kept, truth-agree, blind-stands, fixed, high-cofactor, low-cofactor, has-zero, grown-own, call-then, call-wide, progress-lacks}
+use Rattle.psa_nodes.proofs.CallerLemmas.{At, at, stands-below, stands-kept, stands-weaker, stands-terminal, stands-at, stands-node, level-node, level-stands, node_at-some, node_at-kept, truth-kept, truth-agree, blind-stands, fixed, high-cofactor, low-cofactor, has-zero, grown-own, call-then, call-wide, progress-lacks}
 use Rattle.psa_zbdd.specs.Tails.{IsTails}
 use Rattle.psa_zbdd.specs.Sides.{pair_level, IsReady}
-use Rattle.psa_zbdd.specs.CutSets.{IsCutTail, IsCutTails, AreRanksSmall}
+use Rattle.psa_zbdd.specs.CutSets.{IsCutTail, IsCutTails, AreRanksSmall, AreWiderCuts, cut_key}
 use Rattle.psa_zbdd.proofs.Members.{stands-above}
 use Rattle.psa_zbdd.proofs.Levels.{pair-past}
 use Rattle.psa_zbdd.proofs.Results.{result-kept}
-use Rattle.psa_zbdd.proofs.Positive.{DependsFrom, cuts-above}
+use Rattle.psa_zbdd.proofs.Positive.{DependsFrom, cuts-above, cuts-past, cuts-within}
+use Rattle.psa_zbdd.proofs.Ends.{has-terminal}
+use Rattle.psa_zbdd.proofs.ShortMembers.{short-cuts}
 use Rattle.psa_zbdd.proofs.Decompose.{cut-sides}
 use Rattle.psa_zbdd.proofs.Cofactored.{own-cut, side-cut, cut-tails, member-tails}
 use Rattle.psa_zbdd.proofs.Spared.{past-without}
 
-abbrev pub cut_key : NodeId → ℕ → MemoKey
-cut_key root limit = record { operation = MinimalOfBdd; left = root; right = record { 0 = 0 }; limit = limit }
-
 -- what a call does, with its answer
 abbrev pub CutCalled : {A : Type 0} → ℕ → ℕ → Table → Table → Result A NodeError → Type 0
-CutCalled root limit before now answer = IsCall (IsCutTails (truth before.nodes root) limit) (level before.nodes root) before now answer
+CutCalled root most before now answer = IsCall (IsCutTails (truth before.nodes root) most) (level before.nodes root) before now answer
 
 abbrev pub IsCuts : List Node → ℕ → ℕ → ℕ → Type 0
 IsCuts ns root limit id = IsResult MinimalOfBdd limit ns root 0 id
@@ -51,12 +51,52 @@ pub past-cuts : (ns : List Node) → AllFit ns → (x root limit id : ℕ) → s
 past-cuts ns fit x root limit id st r =
     stands-above ns fit (2 * x) id r.stands_at (λ set m. cuts-above x (truth ns root) limit (truth-agree ns fit (x + 1) root st) set ((r.computes set).0 m))
 
-module _ (old : Table) (root : NodeId) (limit : ℕ) (n : Node) (st : stands Bdd 0 old.nodes root.0 ≡ true) (there : node_at old.nodes root.0 ≡ Some n) (bound : n.var < 2 ^ 31) where
+-- those of a truth that depends on the ranks from v on stand at 2 * v
+level-cuts : (ns : List Node) → AllFit ns → (v root limit id : ℕ) → stands Bdd v ns root ≡ true → IsCuts ns root limit id → stands Zbdd (2 * v) ns id ≡ true
+level-cuts ns fit zero root limit id st r = r.stands_at
+level-cuts ns fit (suc x) root limit id st r =
+    let st' : stands Bdd (x + 1) ns root ≡ true = stands-weaker Bdd (suc x) (x + 1) ns root (omega arith) st in
+    stands-weaker Zbdd (2 * x + 1 + 1) (2 * suc x) ns id (omega arith)
+    (stands-above ns fit (2 * x + 1) id r.stands_at (λ set m. cuts-past x (truth ns root) limit (truth-agree ns fit (x + 1) root st') set ((r.computes set).0 m)))
+
+-- the cut sets within a greater limit are remembered
+module _ (old : Table) (root : NodeId) (limit most : ℕ) (family : NodeId) (fit : AllFit old.nodes) (st : stands Bdd 0 old.nodes root.0 ≡ true) (wider : AreWiderCuts old.nodes root.0 limit most family.0) where
+  pub wider-call : AreRanksSmall old.nodes → 2 ≤ root.0 → {A : Type 0} (now : Table) (answer : Result A NodeError) → IsCall (IsTails (has old.nodes family.0)) (level old.nodes family.0) old now answer → CutCalled root.0 most old now answer
+  wider-call small inner now answer call =
+      call-wide le
+      (λ k v r past t. member-tails (has old.nodes family.0) (truth old.nodes root.0) most
+      (λ set tail var m e. own-cut (truth old.nodes root.0) most var tail set (cuts-within (truth old.nodes root.0) wider.bound most set wider.to ((wider.cuts.computes set).0 m)) e) k v r t)
+      answer call
+    where
+      some : (n : Node) × (node_at old.nodes root.0 ≡ Some n)
+      some = let r = node_at-some old.nodes root.0 inner (stands-below Bdd 0 old.nodes root.0 st) in (r.0, r.1)
+
+      kind : some.0.kind ≡ Bdd
+      kind = (stands-at Bdd 0 old.nodes root.0 some.0 st some.1).0
+
+      own : level old.nodes root.0 ≡ 2 * some.0.var
+      own = level-node old.nodes root.0 some.0 some.1 ∙ ap (λ k. first_literal k some.0.var) kind
+
+      le : level old.nodes root.0 ≤ level old.nodes family.0
+      le =
+          let lt : some.0.var < 2 ^ 31 = small root.0 some.0 some.1 kind in
+          let here : stands Bdd some.0.var old.nodes root.0 ≡ true = rw kind at (stands-node old.nodes root.0 some.0 some.1) in
+          let there = level-cuts old.nodes fit some.0.var root.0 wider.bound family.0 here wider.cuts in
+          let past : 2 * some.0.var ≤ level old.nodes family.0 = level-stands Zbdd (2 * some.0.var) old.nodes family.0 (omega (arith, lt)) there in
+          let e = own in
+          omega (arith, e, past)
+
+  pub wider-cuts : (now : Table) (id : NodeId) → Grown old.nodes now.nodes → AllFit now.nodes → IsResult Product limit now.nodes family.0 1 id.0 → IsCuts now.nodes root.0 limit id.0
+  wider-cuts now id g f s =
+      short-cuts now.nodes f root.0 limit wider.bound family.0 id.0 wider.from
+      (result-kept g MinimalOfBdd wider.bound f root.0 0 family.0 (stands-below Bdd 0 old.nodes root.0 st) (omega arith) wider.cuts) s
+
+module _ (old : Table) (root : NodeId) (limit most : ℕ) (at_most : limit ≤ most) (n : Node) (st : stands Bdd 0 old.nodes root.0 ≡ true) (there : node_at old.nodes root.0 ≡ Some n) (bound : n.var < 2 ^ 31) where
   kind : n.kind ≡ Bdd
   kind = (stands-at Bdd 0 old.nodes root.0 n st there).0
 
   abbrev Wide : Kind → ℕ → Reading → Type 0
-  Wide = IsCutTails (truth old.nodes root.0) limit
+  Wide = IsCutTails (truth old.nodes root.0) most
 
   pub old_level : level old.nodes root.0 ≡ 2 * n.var
   old_level = level-node old.nodes root.0 n there ∙ ap (λ k. first_literal k n.var) kind
@@ -97,33 +137,33 @@ module _ (old : Table) (root : NodeId) (limit : ℕ) (n : Node) (st : stands Bdd
     past_lo = let l : 2 * (n.var + 1) ≤ level now.nodes n.lo.0 = level-stands Bdd (n.var + 1) now.nodes n.lo.0 (omega (arith, bound)) lo_stands in omega (arith, l)
 
     -- the truth is the same in both tables
-    back : (var : ℕ) (set : List ℕ) → IsCutTail (truth now.nodes root.0) limit var set → IsCutTail (truth old.nodes root.0) limit var set
+    back : (var : ℕ) (set : List ℕ) → IsCutTail (truth now.nodes root.0) most var set → IsCutTail (truth old.nodes root.0) most var set
     back var set =
-        subst (λ (f : (ℕ → Bool) → Bool). IsCutTail (truth now.nodes root.0) limit var set → IsCutTail f limit var set)
+        subst (λ (f : (ℕ → Bool) → Bool). IsCutTail (truth now.nodes root.0) most var set → IsCutTail f most var set)
         (λ i s. truth-kept g root.0 s (stands-below Bdd 0 old.nodes root.0 st) i)
         (λ t. t)
 
-    low_cut : (var : ℕ) (set : List ℕ) → IsCutTail (truth now.nodes n.lo.0) limit var set → IsCutTail (truth old.nodes root.0) limit var set
+    low_cut : (var : ℕ) (set : List ℕ) → IsCutTail (truth now.nodes n.lo.0) most var set → IsCutTail (truth old.nodes root.0) most var set
     low_cut var set t =
         back var set (side-cut n.var (truth now.nodes root.0) (truth now.nodes n.lo.0) from_lo (λ a. fixed a n.var false)
         (λ a v lt s. low-cofactor (truth now.nodes root.0) (truth now.nodes n.hi.0) (truth now.nodes n.lo.0) n.var reads a v lt (blind-stands now.nodes fit n.var n.lo.0 lo_stands) s)
-        limit limit var set (omega arith) t)
+        most most var set (omega arith) t)
 
-    high_cut : (var : ℕ) (set : List ℕ) → IsCutTail (truth now.nodes n.hi.0) (limit - 1) var set → IsCutTail (truth old.nodes root.0) limit var set
+    high_cut : (var : ℕ) (set : List ℕ) → IsCutTail (truth now.nodes n.hi.0) most var set → IsCutTail (truth old.nodes root.0) most var set
     high_cut var set t =
         back var set (side-cut n.var (truth now.nodes root.0) (truth now.nodes n.hi.0) from_hi (λ a. fixed a n.var true)
         (λ a v lt s. high-cofactor (truth now.nodes root.0) (truth now.nodes n.hi.0) (truth now.nodes n.lo.0) n.var reads a v lt (blind-stands now.nodes fit n.var n.hi.0 hi_stands) s)
-        (limit - 1) limit var set (omega arith) t)
+        most most var set (omega arith) t)
 
-    low-step : {A : Type 0} (after : Table) (answer : Result A NodeError) → CutCalled n.lo.0 limit now after answer → IsCall Wide (2 * n.var + 1) now after answer
+    low-step : {A : Type 0} (after : Table) (answer : Result A NodeError) → CutCalled n.lo.0 most now after answer → IsCall Wide (2 * n.var + 1) now after answer
     low-step after answer call =
         let le : 2 * n.var + 1 ≤ level now.nodes n.lo.0 = let p = past_lo in omega (arith, p) in
-        call-wide le (λ k v r past t. cut-tails (truth old.nodes root.0) (truth now.nodes n.lo.0) limit limit low_cut k v r t) answer call
+        call-wide le (λ k v r past t. cut-tails (truth old.nodes root.0) (truth now.nodes n.lo.0) most most low_cut k v r t) answer call
 
-    high-step : {A : Type 0} (after : Table) (answer : Result A NodeError) → CutCalled n.hi.0 (limit - 1) now after answer → IsCall Wide (2 * n.var + 1) now after answer
+    high-step : {A : Type 0} (after : Table) (answer : Result A NodeError) → CutCalled n.hi.0 most now after answer → IsCall Wide (2 * n.var + 1) now after answer
     high-step after answer call =
         let le : 2 * n.var + 1 ≤ level now.nodes n.hi.0 = let p = past_hi in omega (arith, p) in
-        call-wide le (λ k v r past t. cut-tails (truth old.nodes root.0) (truth now.nodes n.hi.0) (limit - 1) limit high_cut k v r t) answer call
+        call-wide le (λ k v r past t. cut-tails (truth old.nodes root.0) (truth now.nodes n.hi.0) most most high_cut k v r t) answer call
 
     -- the difference of both sides' cut sets
     less-step : {A : Type 0} (high lo : ℕ) → IsCuts now.nodes n.hi.0 (limit - 1) high → IsCuts now.nodes n.lo.0 limit lo → (after : Table) (answer : Result A NodeError) → IsCall (IsTails (has now.nodes high)) (pair_level now.nodes high lo) now after answer → IsCall Wide (2 * n.var + 1) now after answer
@@ -131,8 +171,8 @@ module _ (old : Table) (root : NodeId) (limit : ℕ) (n : Node) (st : stands Bdd
         let le : 2 * n.var + 1 ≤ pair_level now.nodes high lo = pair-past now.nodes (2 * n.var) high lo (omega (arith, bound))
         (past-cuts now.nodes fit n.var n.hi.0 (limit - 1) high hi_stands of_high) (past-cuts now.nodes fit n.var n.lo.0 limit lo lo_stands of_lo) in
         call-wide le
-        (λ k v r past t. member-tails (has now.nodes high) (truth old.nodes root.0) limit
-        (λ set tail var m e. high_cut var tail (own-cut (truth now.nodes n.hi.0) (limit - 1) var tail set ((of_high.computes set).0 m) e)) k v r t)
+        (λ k v r past t. member-tails (has now.nodes high) (truth old.nodes root.0) most
+        (λ set tail var m e. high_cut var tail (own-cut (truth now.nodes n.hi.0) most var tail set (cuts-within (truth now.nodes n.hi.0) (limit - 1) most set (omega (arith, at_most)) ((of_high.computes set).0 m)) e)) k v r t)
         answer call
 
     its_level : key_level now.nodes (cut_key root limit) ≤ 2 * n.var
@@ -169,12 +209,19 @@ module _ (old : Table) (root : NodeId) (limit : ℕ) (n : Node) (st : stands Bdd
       last-step after answer call =
           let le : level old.nodes root.0 ≤ 2 * n.var = let e = old_level in omega (arith, e) in
           call-wide le
-          (λ k v r p t. member-tails (joined (2 * n.var) (has now.nodes hi) (has now.nodes lo)) (truth old.nodes root.0) limit
-          (λ set tail var m e. back var tail (own-cut (truth now.nodes root.0) limit var tail set ((its_cuts set).0 m) e)) k v r t)
+          (λ k v r p t. member-tails (joined (2 * n.var) (has now.nodes hi) (has now.nodes lo)) (truth old.nodes root.0) most
+          (λ set tail var m e. back var tail (own-cut (truth now.nodes root.0) most var tail set (cuts-within (truth now.nodes root.0) limit most set at_most ((its_cuts set).0 m)) e)) k v r t)
           answer call
 
-    zero-high : (lo : ℕ) → limit ≡ 0 → (set : List ℕ) → (has now.nodes 0 set ≡ true) ↔ ((1 ≤ limit) × IsCutProduct (truth now.nodes n.hi.0) (limit - 1) set × Spares (has now.nodes lo) set)
-    zero-high lo e set = (λ m. absurd (false≢true (sym (has-zero now.nodes set) ∙ m)), λ p. let one = p.0 in absurd (omega (arith, one, e)))
+    -- no event may be added, or the empty set is a cut set, and a part of every other
+    none-high : (lo : ℕ) → (limit ≡ 0) ⊎ (lo ≡ 1) → (set : List ℕ) → (has now.nodes 0 set ≡ true) ↔ ((1 ≤ limit) × IsCutProduct (truth now.nodes n.hi.0) (limit - 1) set × Spares (has now.nodes lo) set)
+    none-high lo none set = (
+      λ m. absurd (false≢true (sym (has-zero now.nodes set) ∙ m)),
+      λ p. elim none [
+        | inl e ↦ let one = p.0 in absurd (omega (arith, one, e))
+        | inr e ↦ absurd (p.2 [] (ap (λ (id : ℕ). has now.nodes id []) e ∙ has-terminal now.nodes 1 [] (omega arith)) (part-nil set))
+      ],
+    )
 
     some-high : (high lo hi : ℕ) → 1 ≤ limit → IsCuts now.nodes n.hi.0 (limit - 1) high → IsResult Without 0 now.nodes high lo hi → (set : List ℕ) → (has now.nodes hi set ≡ true) ↔ ((1 ≤ limit) × IsCutProduct (truth now.nodes n.hi.0) (limit - 1) set × Spares (has now.nodes lo) set)
     some-high high lo hi one of_high of_hi set = (
@@ -194,36 +241,36 @@ module _ (old : Table) (root : NodeId) (limit : ℕ) (n : Node) (st : stands Bdd
       progress-lacks call.progress (cut_key root limit) lacks (omega (arith, e))
 
   module _ (fit : AllFit old.nodes) where
-    pub low-exit : {A : Type 0} (one : Table) (answer : Result A NodeError) → CutCalled n.lo.0 limit old one answer → IsCall Wide (level old.nodes root.0) old one answer
+    pub low-exit : {A : Type 0} (one : Table) (answer : Result A NodeError) → CutCalled n.lo.0 most old one answer → IsCall Wide (level old.nodes root.0) old one answer
     low-exit one answer call = exit one answer (low-step old (grown-own old.nodes) fit one answer call)
 
     -- after the low side
-    module _ (one : Table) (lo : NodeId) (first : CutCalled n.lo.0 limit old one (Ok lo)) (of_lo : IsCuts one.nodes n.lo.0 limit lo.0) where
+    module _ (one : Table) (lo : NodeId) (first : CutCalled n.lo.0 most old one (Ok lo)) (of_lo : IsCuts one.nodes n.lo.0 limit lo.0) where
       first_step : IsCall Wide (2 * n.var + 1) old one (Ok lo)
       first_step = low-step old (grown-own old.nodes) fit one (Ok lo) first
 
-      -- no event more
-      module _ (none : limit ≡ 0) where
-        pub zero-ready : IsReady one.nodes (cut_key root limit) (2 * n.var) 0 lo.0
-        zero-ready =
-            its_ready one first.progress.nodes first.progress.table.fit 0 lo.0 of_lo (stands-terminal Zbdd (2 * n.var + 1) one.nodes 0 (omega arith)) (zero-high one first.progress.nodes first.progress.table.fit lo.0 none)
+      -- nothing on the high side
+      module _ (none : (limit ≡ 0) ⊎ (lo.0 ≡ 1)) where
+        pub low-ready : IsReady one.nodes (cut_key root limit) (2 * n.var) 0 lo.0
+        low-ready =
+            its_ready one first.progress.nodes first.progress.table.fit 0 lo.0 of_lo (stands-terminal Zbdd (2 * n.var + 1) one.nodes 0 (omega arith)) (none-high one first.progress.nodes first.progress.table.fit lo.0 none)
 
-        pub zero-absent : Lacks old.entries (cut_key root limit) → Lacks one.entries (cut_key root limit)
-        zero-absent lacks = lacks-still one (Ok lo) first_step lacks
+        pub low-absent : Lacks old.entries (cut_key root limit) → Lacks one.entries (cut_key root limit)
+        low-absent lacks = lacks-still one (Ok lo) first_step lacks
 
-        pub zero-call : {A : Type 0} (now : Table) (answer : Result A NodeError) → IsCall (IsTails (joined (2 * n.var) (has one.nodes 0) (has one.nodes lo.0))) (2 * n.var) one now answer → IsCall Wide (level old.nodes root.0) old now answer
-        zero-call now answer last =
+        pub low-call : {A : Type 0} (now : Table) (answer : Result A NodeError) → IsCall (IsTails (joined (2 * n.var) (has one.nodes 0) (has one.nodes lo.0))) (2 * n.var) one now answer → IsCall Wide (level old.nodes root.0) old now answer
+        low-call now answer last =
             call-then lo answer (low-exit one (Ok lo) first)
-            (last-step one first.progress.nodes first.progress.table.fit 0 lo.0 of_lo (stands-terminal Zbdd (2 * n.var + 1) one.nodes 0 (omega arith)) (zero-high one first.progress.nodes first.progress.table.fit lo.0 none) now answer last)
+            (last-step one first.progress.nodes first.progress.table.fit 0 lo.0 of_lo (stands-terminal Zbdd (2 * n.var + 1) one.nodes 0 (omega arith)) (none-high one first.progress.nodes first.progress.table.fit lo.0 none) now answer last)
 
-      two-steps : {A : Type 0} (two : Table) (answer : Result A NodeError) → CutCalled n.hi.0 (limit - 1) one two answer → IsCall Wide (2 * n.var + 1) old two answer
+      two-steps : {A : Type 0} (two : Table) (answer : Result A NodeError) → CutCalled n.hi.0 most one two answer → IsCall Wide (2 * n.var + 1) old two answer
       two-steps two answer call = call-then lo answer first_step (high-step one first.progress.nodes first.progress.table.fit two answer call)
 
-      pub high-exit : {A : Type 0} (two : Table) (answer : Result A NodeError) → CutCalled n.hi.0 (limit - 1) one two answer → IsCall Wide (level old.nodes root.0) old two answer
+      pub high-exit : {A : Type 0} (two : Table) (answer : Result A NodeError) → CutCalled n.hi.0 most one two answer → IsCall Wide (level old.nodes root.0) old two answer
       high-exit two answer call = exit two answer (two-steps two answer call)
 
       -- after the high side
-      module _ (two : Table) (high : NodeId) (second : CutCalled n.hi.0 (limit - 1) one two (Ok high)) (of_high : IsCuts two.nodes n.hi.0 (limit - 1) high.0) where
+      module _ (two : Table) (high : NodeId) (second : CutCalled n.hi.0 most one two (Ok high)) (of_high : IsCuts two.nodes n.hi.0 (limit - 1) high.0) where
         grown_two : Grown old.nodes two.nodes
         grown_two = (two-steps two (Ok high) second).progress.nodes
 

@@ -11,4 +11,6 @@ pub mod Decompose
 pub mod Cofactored
 pub mod CutSteps
 pub mod Ends
+pub mod ShortMembers
+pub mod ShortSteps
 pub mod CallerLemmas

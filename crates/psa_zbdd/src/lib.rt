@@ -7,10 +7,13 @@ mod differences;
 mod making;
 mod sides;
 mod unions;
+mod within;
 
 pub use cut_sets::minimal_of_bdd;
 pub use differences::without;
 pub use unions::union;
 
+#[cfg(test)]
+mod limit_tests;
 #[cfg(test)]
 mod tests;
