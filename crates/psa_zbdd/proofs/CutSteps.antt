@@ -8,7 +8,6 @@ use Rattle.psa_nodes.specs.declared.node.Kind.TheVariants.{Bdd, Zbdd}
 use Rattle.psa_nodes.specs.declared.node.Node.{Node}
 use Rattle.psa_nodes.specs.declared.node.NodeId.{NodeId}
 use Rattle.psa_nodes.specs.declared.node.NodeError.{NodeError}
-use Rattle.psa_nodes.specs.declared.node.MemoKey.{MemoKey}
 use Rattle.psa_nodes.specs.declared.node.Operation.TheVariants.{MinimalOfBdd, Product, Without}
 use Rattle.psa_nodes.specs.Readings.{Reading, node_at, truth, has, joined, stands, level, first_literal}
 use Rattle.psa_nodes.specs.Nodes.{AllFit, Grown}
