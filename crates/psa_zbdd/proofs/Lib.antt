@@ -13,3 +13,4 @@ pub mod CutSteps
 pub mod Ends
 pub mod ShortMembers
 pub mod ShortSteps
+pub mod WiderCuts
