@@ -13,4 +13,5 @@ pub mod CutSteps
 pub mod Ends
 pub mod ShortMembers
 pub mod ShortSteps
+pub mod WiderCuts
 pub mod CallerLemmas
