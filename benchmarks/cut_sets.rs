@@ -1,11 +1,11 @@
 //! The workload `cut-sets` of crates/psa_speed in plain Rust, to compare: rustc -O benchmarks/cut_sets.rs
-//! Its words are a way, the number of plants and the limits, as `./cut_sets limit 8 20 6`. All limits run on one table.
+//! Its words are a way, the number of plants and the limits, as `./cut_sets wider 8 20 6`. All limits run on one table.
 //! The ways differ in how a result on the minimal cut sets of a node is remembered:
-//! - `limit`: by node and limit, each event taken lowers the limit (Rauzy).
+//! - `wider`: by node and limit, each event taken lowers the limit (Rauzy); a result for a greater limit, up to that of
+//!   the call, serves by its short members. This is the way of psa_zbdd.
+//! - `limit`: by node and limit alone.
 //! - `bound`: as `limit`; an answer in which nothing was cut is whole, and serves every limit not below a bound of its
 //!   members' events, one more than that of the high side or that of the low side. Both are remembered as entries.
-//! - `bound-aside`: as `bound`, in a map of its own.
-//! - `exact-aside`: as `bound-aside`, with the length of the longest member in place of the bound.
 //! - `one-limit`: by node and the limit of the call; the members of the high side are cut to one event less afterwards.
 use std::collections::HashMap;
 use std::hash::{BuildHasherDefault, Hash, Hasher};
@@ -79,10 +79,9 @@ struct MemoKey {
 
 #[derive(Clone, Copy, PartialEq, Eq)]
 enum Way {
+    Wider,
     Limit,
     Bound,
-    BoundAside,
-    ExactAside,
     OneLimit,
 }
 
@@ -91,10 +90,6 @@ struct NodeTable {
     nodes: Vec<Node>,
     ids: HashMap<Node, u64, Fast>,
     memo: HashMap<MemoKey, u64, Fast>,
-    /// Whole answers with their bounds, for the ways that keep them aside.
-    whole: HashMap<u64, (u64, u8), Fast>,
-    /// The longest member of a family.
-    longest: HashMap<u64, u8, Fast>,
 }
 
 impl NodeTable {
@@ -119,22 +114,8 @@ impl NodeTable {
         self.nodes[(id - 2) as usize]
     }
 
-    /// The family's longest member.
-    fn longest(&mut self, family: u64) -> u8 {
-        if family < 2 {
-            return 0;
-        }
-        if let Some(longest) = self.longest.get(&family) {
-            return *longest;
-        }
-        let node = self.node(family);
-        let longest = self.longest(node.lo).max(self.longest(node.hi) + 1);
-        self.longest.insert(family, longest);
-        longest
-    }
-
     fn entries(&self) -> usize {
-        self.memo.len() + self.whole.len() + self.longest.len()
+        self.memo.len()
     }
 }
 
@@ -246,22 +227,18 @@ struct CutSets {
 }
 
 /// The whole answer at a node, with its bound where that is within the limit.
-fn whole_answer(table: &NodeTable, way: Way, root: u64, limit: u8) -> Option<CutSets> {
-    if way == Way::Bound {
-        let family = *table.memo.get(&cut_key(root, WHOLE))?;
-        let longest = (0..=limit).find(|k| table.memo.get(&cut_key(root, *k)) == Some(&family));
-        return Some(CutSets { family, longest });
-    }
-    let (family, longest) = *table.whole.get(&root)?;
-    Some(CutSets { family, longest: (longest <= limit).then_some(longest) })
+fn whole_answer(table: &NodeTable, root: u64, limit: u8) -> Option<CutSets> {
+    let family = *table.memo.get(&cut_key(root, WHOLE))?;
+    let longest = (0..=limit).find(|k| table.memo.get(&cut_key(root, *k)) == Some(&family));
+    Some(CutSets { family, longest })
 }
 
-/// The ways that know whole answers.
-fn by_whole(table: &mut NodeTable, way: Way, root: u64, limit: u8) -> CutSets {
+/// The way `bound`.
+fn by_whole(table: &mut NodeTable, root: u64, limit: u8) -> CutSets {
     if root < 2 {
         return CutSets { family: root, longest: Some(0) };
     }
-    let known = whole_answer(table, way, root, limit);
+    let known = whole_answer(table, root, limit);
     if let Some(answer @ CutSets { longest: Some(_), .. }) = known {
         return answer;
     }
@@ -269,28 +246,24 @@ fn by_whole(table: &mut NodeTable, way: Way, root: u64, limit: u8) -> CutSets {
         return CutSets { family: *family, longest: None };
     }
     let node = table.node(root);
-    let low = by_whole(table, way, node.lo, limit);
+    let low = by_whole(table, node.lo, limit);
     let (mut hi, mut longest) = (0, None);
     if low.family == 1 {
         longest = Some(0);
     } else if limit > 0 {
-        let high = by_whole(table, way, node.hi, limit - 1);
+        let high = by_whole(table, node.hi, limit - 1);
         hi = without(table, high.family, low.family);
         longest = match (high.longest, low.longest) {
             (Some(_), Some(low)) if hi == 0 => Some(low),
-            (Some(_), Some(low)) if way == Way::ExactAside => Some(low.max(table.longest(hi) + 1)),
             (Some(high), Some(low)) => Some(low.max(high + 1)),
             _ => None,
         };
     }
     let family = table.zbdd_node(2 * node.var, hi, low.family);
     match longest {
-        Some(longest) if known.is_none() && way == Way::Bound => {
+        Some(longest) if known.is_none() => {
             table.memo.insert(cut_key(root, WHOLE), family);
             table.memo.entry(cut_key(root, longest)).or_insert(family);
-        }
-        Some(longest) if known.is_none() => {
-            table.whole.insert(root, (family, longest));
         }
         _ => {
             table.memo.insert(cut_key(root, limit), family);
@@ -337,11 +310,35 @@ fn at_one_limit(table: &mut NodeTable, root: u64, limit: u8) -> u64 {
     id
 }
 
+/// The way `wider`, in a call for the limit `most`.
+fn by_wider(table: &mut NodeTable, root: u64, limit: u8, most: u8) -> u64 {
+    if root < 2 {
+        return root;
+    }
+    for wider in limit..=most {
+        if let Some(family) = table.memo.get(&cut_key(root, wider)) {
+            let family = *family;
+            return if wider == limit { family } else { within(table, family, limit) };
+        }
+    }
+    let node = table.node(root);
+    let lo = by_wider(table, node.lo, limit, most);
+    let mut hi = 0;
+    if limit > 0 && lo != 1 {
+        let high = by_wider(table, node.hi, limit - 1, most);
+        hi = without(table, high, lo);
+    }
+    let id = table.zbdd_node(2 * node.var, hi, lo);
+    table.memo.insert(cut_key(root, limit), id);
+    id
+}
+
 fn minimal_cut_sets(table: &mut NodeTable, way: Way, root: u64, limit: u8) -> u64 {
     match way {
+        Way::Wider => by_wider(table, root, limit, limit),
         Way::Limit => by_limit(table, root, limit),
+        Way::Bound => by_whole(table, root, limit).family,
         Way::OneLimit => at_one_limit(table, root, limit),
-        _ => by_whole(table, way, root, limit).family,
     }
 }
 
@@ -431,11 +428,10 @@ fn count(table: &NodeTable, family: u64, counted: &mut HashMap<u64, Vec<u64>, Fa
 fn main() {
     let words: Vec<String> = std::env::args().skip(1).collect();
     let way = match words.first().map(String::as_str) {
+        Some("limit") => Way::Limit,
         Some("bound") => Way::Bound,
-        Some("bound-aside") => Way::BoundAside,
-        Some("exact-aside") => Way::ExactAside,
         Some("one-limit") => Way::OneLimit,
-        _ => Way::Limit,
+        _ => Way::Wider,
     };
     let mut numbers = words.iter().skip(1).map(|word| word.parse::<u8>().unwrap());
     let plants = u32::from(numbers.next().unwrap_or(8));
