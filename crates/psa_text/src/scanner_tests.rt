@@ -161,7 +161,10 @@ fn told(alloc: Global, fault: &str, byte: usize, size: usize) -> Result<String, 
     let mut out = String::from_str(alloc, fault)?;
     if byte > 0 {
         out.push_str(" at ")?;
-        push_number(&mut out, byte.div_ceil(size.max(1)) as u32)?;
+        push_number(
+            &mut out,
+            u32::try_from(byte.div_ceil(size.max(1))).unwrap_or(u32::MAX),
+        )?;
     }
     Ok(out)
 }
