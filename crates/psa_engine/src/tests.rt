@@ -106,6 +106,45 @@ fn reports(rt: HostRuntime) -> Result<(), Fail> {
     Ok(())
 }
 
+/// A model of gates that each have thousands of references to the next; the last has one event. What is known
+/// of a gate has to be remembered: there are 8,000^7 ways from the first gate to the event.
+fn many_references(alloc: Global) -> Result<String, OutOfMemory> {
+    let mut text = String::from_str(alloc, "<opsa-mef><define-fault-tree name=\"F\">")?;
+    for (gate, next) in [
+        ("a", "b"),
+        ("b", "c"),
+        ("c", "d"),
+        ("d", "e"),
+        ("e", "f"),
+        ("f", "g"),
+        ("g", "h"),
+    ] {
+        text.push_str("<define-gate name=\"")?;
+        text.push_str(gate)?;
+        text.push_str("\"><or>")?;
+        for _ in 0..8000 {
+            text.push_str("<gate name=\"")?;
+            text.push_str(next)?;
+            text.push_str("\"/>")?;
+        }
+        text.push_str("</or></define-gate>\n")?;
+    }
+    text.push_str("<define-gate name=\"h\"><basic-event name=\"x\"/></define-gate>")?;
+    text.push_str("<define-basic-event name=\"x\"/></define-fault-tree></opsa-mef>")?;
+    Ok(text)
+}
+
+#[test]
+fn evaluates_each_gate_once(rt: HostRuntime) -> Result<(), Fail> {
+    let text = many_references(rt.alloc())?;
+    let left = run(rt.alloc(), &["m.xml"], text.as_str(), 4096, &[], &[])?;
+    let mut wanted = Vec::from_slice(rt.alloc(), HEAD.as_bytes())?;
+    wanted.extend_from_slice(b"top-event F a\n- 1 x\ncount 1\n")?;
+    assert_eq!(rt; left.status, Status::Done);
+    assert_eq!(rt; left.out.as_slice(), wanted.as_slice());
+    Ok(())
+}
+
 /// Words and texts outside the profile, and files that cannot be read.
 #[test]
 fn refusals(rt: HostRuntime) -> Result<(), Fail> {

@@ -1,5 +1,5 @@
 -- What a memo knows after a write and in a new round.
-use Rattle.std.proofs.Common.{◌≡◌, ◌≤◌, ◌+◌, ◌⊎◌, inl, inr, ℕ, suc, zero, Bool, true, false, List, [], ◌∷◌, ◌++◌, Some, None, eqb, leb, cond, nat_le, refl, ap, arith}
+use Rattle.std.proofs.Common.{◌≡◌, ◌≤◌, ◌<◌, ◌+◌, ◌⊎◌, inl, inr, ℕ, suc, zero, Bool, true, false, List, [], ◌∷◌, ◌++◌, Some, None, eqb, leb, cond, nat_le, length, refl, ap, arith, eq-eqb}
 use Rattle.std.proofs.lemmas.Bool.Decides.{nat_tests}
 use Rattle.std.specs.List.{slice_get, slice_set, list_all}
 use Rattle.psa_model.proofs.Levels.{and-left, and-right, and-both}
@@ -23,6 +23,18 @@ written (e ∷ es) round (suc place) value (suc other) truth h =
       | inl old ↦ inl old
       | inr new ↦ inr (ap suc new.0, new.1)
     ]
+
+itself : (round : ℕ) (value : Bool) → of_round round (Some (record { round = round; value = value })) ≡ Some value
+itself round value = chosen (eqb round round) (eq-eqb round round refl)
+  where
+    chosen : (b : Bool) → b ≡ true → cond b (Some value) None ≡ Some value
+    chosen true e = refl
+    chosen false e = absurd (cc)
+
+pub known : (entries : List Entry) (round place : ℕ) (value : Bool) → place < length entries → of_round round (slice_get (slice_set entries place (record { round = round; value = value })) place) ≡ Some value
+known [] round place value within = absurd (omega (arith, within))
+known (e ∷ es) round zero value within = itself round value
+known (e ∷ es) round (suc place) value within = known es round place value (omega (arith, within))
 
 older : (entry : Entry) (round : ℕ) → leb entry.round round ≡ true → of_round (round + 1) (Some entry) ≡ None
 older entry round h = later (eqb entry.round (round + 1)) (different entry.round h)

@@ -1,4 +1,4 @@
-ghost use Rattle.std.specs.Prelude.{◌≡◌, ◌⊎◌, ℕ, Bool, Some, None, []};
+ghost use Rattle.std.specs.Prelude.{◌≡◌, ◌<◌, ◌⊎◌, ℕ, Bool, Some, None, [], length, IfOk};
 ghost use Rattle.psa_plain.specs.Recorded.{recorded, of_round};
 
 use crate::memo::{Entry, Memo};
@@ -8,7 +8,9 @@ use std::alloc::Global;
 
 impl Memo {
     /// A memo for a number of gates.
-    pub fn new(alloc: Global, gates: usize) -> Result<Memo, OutOfMemory> {
+    pub fn new(alloc: Global, gates: usize) -> Result<Memo, OutOfMemory>
+        ensures { IfOk result (λ memo. length memo.entries.items ≡ gates) }
+    {
         let mut entries = Vec::new(alloc);
         for _ in 0..gates {
             entries.push(Entry {
@@ -42,7 +44,9 @@ impl Memo {
 
     /// Records the truth of a gate.
     pub fn set(&mut self, gate: u32, value: bool)
-        ensures { (other : ℕ) (truth : Bool) → recorded self.new other ≡ Some truth → (recorded self.old other ≡ Some truth) ⊎ ((other ≡ gate) × (truth ≡ value)) }
+        ensures known { gate < length self.old.entries.items → recorded self.new gate ≡ Some value }
+        ensures size { length self.new.entries.items ≡ length self.old.entries.items }
+        ensures only { (other : ℕ) (truth : Bool) → recorded self.new other ≡ Some truth → (recorded self.old other ≡ Some truth) ⊎ ((other ≡ gate) × (truth ≡ value)) }
     {
         let place = gate as usize;
         if place < self.entries.len() {
