@@ -100,7 +100,7 @@ pub gate_truth-returns-in-Some-at : goal.gate_truth-returns-in-Some-at
 gate_truth-returns-in-Some-at t c =
     answered-gate c.args.question.now c.args.id c.in-Some-at.gate.now _ _ _
     (ap (λ gs. slice_get gs c.args.id.0) (sym c.as_slice.ensures) ∙ sym c.in-Some-at.ensures)
-    c.formula_truth-value.ensures c.set.ensures
+    c.formula_truth-value.ensures c.set.ensures.only
 
 pub gate_truth-returns-in-None : goal.gate_truth-returns-in-None
 gate_truth-returns-in-None t c =
