@@ -7,75 +7,11 @@
 //! - `bound`: as `limit`; an answer in which nothing was cut is whole, and serves every limit not below a bound of its
 //!   members' events, one more than that of the high side or that of the low side. Both are remembered as entries.
 //! - `one-limit`: by node and the limit of the call; the members of the high side are cut to one event less afterwards.
+mod node_table;
+
+use node_table::{Fast, MemoKey, Node, NodeTable, Operation, and, or};
 use std::collections::HashMap;
-use std::hash::{BuildHasherDefault, Hash, Hasher};
 use std::time::Instant;
-
-/// The multiplicative hash of Firefox and rustc.
-#[derive(Default)]
-struct FastHasher(u64);
-
-impl FastHasher {
-    fn add(&mut self, word: u64) {
-        self.0 = (self.0.rotate_left(5) ^ word).wrapping_mul(0x517c_c1b7_2722_0a95);
-    }
-}
-
-impl Hasher for FastHasher {
-    fn write(&mut self, bytes: &[u8]) {
-        for byte in bytes {
-            self.add(u64::from(*byte));
-        }
-    }
-    fn write_u8(&mut self, n: u8) {
-        self.add(u64::from(n));
-    }
-    fn write_u32(&mut self, n: u32) {
-        self.add(u64::from(n));
-    }
-    fn write_u64(&mut self, n: u64) {
-        self.add(n);
-    }
-    fn write_isize(&mut self, n: isize) {
-        self.add(n as u64);
-    }
-    fn finish(&self) -> u64 {
-        self.0
-    }
-}
-
-type Fast = BuildHasherDefault<FastHasher>;
-
-#[derive(Clone, Copy, PartialEq, Eq, Hash)]
-enum Kind {
-    Bdd,
-    Zbdd,
-}
-
-#[derive(Clone, Copy, PartialEq, Eq, Hash)]
-struct Node {
-    kind: Kind,
-    var: u32,
-    hi: u64,
-    lo: u64,
-}
-
-#[derive(Clone, Copy, PartialEq, Eq, Hash)]
-enum Operation {
-    And,
-    Or,
-    Product,
-    Without,
-    MinimalOfBdd,
-}
-
-#[derive(Clone, Copy, PartialEq, Eq, Hash)]
-struct MemoKey {
-    operation: Operation,
-    left: u64,
-    right: u64,
-    limit: u8,
-}
 
 #[derive(Clone, Copy, PartialEq, Eq)]
 enum Way {
@@ -83,82 +19,6 @@ enum Way {
     Limit,
     Bound,
     OneLimit,
-}
-
-#[derive(Default)]
-struct NodeTable {
-    nodes: Vec<Node>,
-    ids: HashMap<Node, u64, Fast>,
-    memo: HashMap<MemoKey, u64, Fast>,
-}
-
-impl NodeTable {
-    fn add(&mut self, node: Node) -> u64 {
-        let next = self.nodes.len() as u64 + 2;
-        let id = *self.ids.entry(node).or_insert(next);
-        if id == next {
-            self.nodes.push(node);
-        }
-        id
-    }
-
-    fn bdd_node(&mut self, var: u32, hi: u64, lo: u64) -> u64 {
-        if hi == lo { lo } else { self.add(Node { kind: Kind::Bdd, var, hi, lo }) }
-    }
-
-    fn zbdd_node(&mut self, var: u32, hi: u64, lo: u64) -> u64 {
-        if hi == 0 { lo } else { self.add(Node { kind: Kind::Zbdd, var, hi, lo }) }
-    }
-
-    fn node(&self, id: u64) -> Node {
-        self.nodes[(id - 2) as usize]
-    }
-
-    fn entries(&self) -> usize {
-        self.memo.len()
-    }
-}
-
-fn trivial(operation: Operation, left: u64, right: u64) -> Option<u64> {
-    let (dominant, neutral) = if operation == Operation::And { (0, 1) } else { (1, 0) };
-    if left == right || left == dominant || right == neutral {
-        return Some(left);
-    }
-    if right == dominant || left == neutral {
-        return Some(right);
-    }
-    None
-}
-
-fn sides(id: u64, node: Node, var: u32) -> (u64, u64) {
-    if node.var == var { (node.hi, node.lo) } else { (id, id) }
-}
-
-fn combine(table: &mut NodeTable, operation: Operation, left: u64, right: u64) -> u64 {
-    if let Some(id) = trivial(operation, left, right) {
-        return id;
-    }
-    let key = MemoKey { operation, left: left.min(right), right: left.max(right), limit: 0 };
-    if let Some(id) = table.memo.get(&key) {
-        return *id;
-    }
-    let (first, second) = (table.node(left), table.node(right));
-    let var = first.var.min(second.var);
-    let (left_hi, left_lo) = sides(left, first, var);
-    let (right_hi, right_lo) = sides(right, second, var);
-    let hi = combine(table, operation, left_hi, right_hi);
-    let lo = combine(table, operation, left_lo, right_lo);
-    let id = table.bdd_node(var, hi, lo);
-    table.memo.insert(key, id);
-    id
-}
-
-fn or(table: &mut NodeTable, left: u64, right: u64) -> u64 {
-    combine(table, Operation::Or, left, right)
-}
-
-fn and(table: &mut NodeTable, left: u64, right: u64) -> u64 {
-    combine(table, Operation::And, left, right)
 }
 
 fn family_sides(id: u64, node: Option<Node>, var: u32) -> (u64, u64) {
