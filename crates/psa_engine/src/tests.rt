@@ -135,7 +135,7 @@ fn many_references(alloc: Global) -> Result<String, OutOfMemory> {
 }
 
 #[test]
-fn evaluates_each_gate_once(rt: HostRuntime) -> Result<(), Fail> {
+fn remembers_what_is_known_of_gates(rt: HostRuntime) -> Result<(), Fail> {
     let text = many_references(rt.alloc())?;
     let left = run(rt.alloc(), &["m.xml"], text.as_str(), 4096, &[], &[])?;
     let mut wanted = Vec::from_slice(rt.alloc(), HEAD.as_bytes())?;
