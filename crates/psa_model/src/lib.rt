@@ -18,7 +18,7 @@ mod walks;
 pub use draft::{
     DefinitionKind, Draft, DraftBody, DraftBranch, DraftBranchEnd, DraftDefinition,
     DraftExpression, DraftFactor, DraftForkPath, DraftFormula, DraftGroup, DraftInstruction,
-    DraftReference, EventKind,
+    DraftReference, DraftTest, EventKind,
 };
 pub use expanded::{Expanded, ExpandedEvent};
 pub use expression::{Expression, ExpressionOperator};
@@ -36,4 +36,4 @@ pub use model::{
 pub use product::{Literal, MAX_ORDER, Product};
 pub use settings::{Algorithm, Input, Mode, Settings};
 pub use targets::{Path, PathStep, Ranks, Target, Targets, Values};
-pub use walks::{Branch, BranchEnd, ForkPath, Instruction};
+pub use walks::{Branch, BranchEnd, ForkPath, Instruction, Test};
