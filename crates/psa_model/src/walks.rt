@@ -2,7 +2,7 @@ use crate::{BranchId, FormulaId, FunctionalId, HouseId, InitiatingId, RuleId, Se
 use psa_text::{Items, Text};
 
 /// An instruction of an event tree.
-#[derive(Debug, Drop)]
+#[derive(Drop)]
 pub enum Instruction {
     /// A formula that the path collects.
     Collect(FormulaId),
@@ -15,7 +15,7 @@ pub enum Instruction {
 }
 
 /// A test of the walk under way.
-#[derive(Debug, Drop)]
+#[derive(Drop)]
 pub enum Test {
     /// The walk is that of this initiating event.
     Initiating(InitiatingId),
@@ -28,14 +28,16 @@ pub enum Test {
 }
 
 /// Instructions, and where the walk goes after them.
-#[derive(Debug, Drop)]
+#[derive(Drop)]
 #[cycle(branch)]
 pub struct Branch {
     pub instructions: Items<Instruction>,
     pub end: BranchEnd,
 }
 
-#[derive(Debug, Drop)]
+/// Where a walk goes behind instructions: over a fork at a functional event, to a sequence, or on at a
+/// named branch.
+#[derive(Drop)]
 #[cycle(branch)]
 pub enum BranchEnd {
     Fork(FunctionalId, Items<ForkPath>),
@@ -44,7 +46,7 @@ pub enum BranchEnd {
 }
 
 /// A path of a fork: the state of its functional event, and the branch taken.
-#[derive(Debug, Drop)]
+#[derive(Drop)]
 #[cycle(branch)]
 pub struct ForkPath {
     pub state: Text,
