@@ -1,0 +1,14 @@
+use Rattle.std.proofs.Common.{refl}
+use Rattle.psa_text.specs.declared.tree.Element.TheFolds.{fold-roll-Element}
+use Rattle.psa_reader.specs.ShapeFaults.{ElementFaults, faults_layer}
+use Rattle.psa_reader.specs.DraftReading.{ElementReading, reading_layer}
+use Rattle.psa_reader.proofs.examples.one_gate_has_three_definitions.Goals as goal
+
+pub returns-clause-shape : goal.returns-clause-shape
+returns-clause-shape c = simp (fold-roll-Element ElementFaults (faults_layer 0)) refl
+
+pub returns-clause-names : goal.returns-clause-names
+returns-clause-names c = simp (fold-roll-Element ElementReading reading_layer) refl
+
+pub returns-clause-numbers : goal.returns-clause-numbers
+returns-clause-numbers c = simp (fold-roll-Element ElementReading reading_layer) refl

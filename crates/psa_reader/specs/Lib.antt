@@ -1,0 +1,4 @@
+pub mod ElementTable
+pub mod ShapeFaults
+pub mod DraftReading
+pub mod ExampleTrees
