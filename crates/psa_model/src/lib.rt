@@ -3,12 +3,14 @@
 #![tactic(auto)]
 
 mod draft;
+mod examples;
 mod expanded;
 mod expression;
 mod fault;
 mod formula;
 mod ids;
 mod laws;
+mod limits;
 mod model;
 mod product;
 mod settings;
@@ -20,6 +22,9 @@ pub use draft::{
     DraftExpression, DraftFactor, DraftForkPath, DraftFormula, DraftGroup, DraftInstruction,
     DraftReference, DraftTest, EventKind,
 };
+pub use examples::{
+    condition_in_a_rule, event_tree_with_a_link, group_of_three_members, lines_of_faults,
+};
 pub use expanded::{Expanded, ExpandedEvent};
 pub use expression::{Expression, ExpressionOperator};
 pub use fault::{FaultKind, ModelFault};
@@ -29,6 +34,7 @@ pub use ids::{
     InitiatingId, ParameterId, Place, RuleId, SequenceId, TreeId,
 };
 pub use laws::{gate_is_its_formula, more_levels_change_nothing};
+pub use limits::{MAX_INSTRUCTIONS, MAX_PATHS, MAX_VALUE_LEVELS};
 pub use model::{
     BasicEvent, EventTree, Factor, FaultTree, Functional, Gate, Group, GroupModel, House,
     Initiating, MAX_DEPTH, Model, NamedBranch, Parameter, RuleDefinition, Sequence, Valued,

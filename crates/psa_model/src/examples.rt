@@ -1,0 +1,57 @@
+//! What the definitions say of small models. The functions do nothing: their contracts are the
+//! examples.
+ghost use Rattle.std.specs.Prelude.{◌≡◌, [], ◌∷◌, codes, map, None, Ok, true};
+ghost use Rattle.psa_number.specs.Scaled.{Scaled};
+ghost use Rattle.psa_model.specs.declared.fault.FaultKind.TheVariants as fault;
+ghost use Rattle.psa_model.specs.declared.targets.Target.TheVariants.{TopEvent};
+ghost use Rattle.psa_model.specs.ConditionExample.{condition_model, collects, sequence_target};
+ghost use Rattle.psa_model.specs.EventTreeExample.{event_tree_model, sets_house};
+ghost use Rattle.psa_model.specs.Expansion.{expanded_of};
+ghost use Rattle.psa_model.specs.FaultTexts.{fault_line};
+ghost use Rattle.psa_model.specs.GroupExample.{group_model, shared, exactly};
+ghost use Rattle.psa_model.specs.PathFaults.{walk_fault};
+ghost use Rattle.psa_model.specs.PathTargets.{targets_of};
+ghost use Rattle.psa_model.specs.Values.{values_of};
+
+/// A group of three members by multiple Greek letters, with the distribution 0.1 and the factors 0.2
+/// and 0.5: its subsets in order, as numbers with bit i for the member at place i; and the quantities
+/// of its events, in units of 10^-12: 0.08 for each member alone, 0.005 for two, 0.01 for all three.
+pub fn group_of_three_members()
+    ensures events { (expanded_of true group_model).events ≡ map shared (1 ∷ 2 ∷ 4 ∷ 3 ∷ 5 ∷ 6 ∷ 7 ∷ []) }
+    ensures values { (mission : Scaled) → values_of mission (expanded_of true group_model)
+        ≡ Ok (map exactly (80_000_000_000 ∷ 80_000_000_000 ∷ 80_000_000_000
+        ∷ 5_000_000_000 ∷ 5_000_000_000 ∷ 5_000_000_000 ∷ 10_000_000_000 ∷ [])) }
+{}
+
+/// Two initiating events share an event tree whose sequence follows a rule with a condition: the first
+/// one's path through `down` collects the first formula, and every other path the second.
+pub fn condition_in_a_rule()
+    ensures fault { walk_fault condition_model ≡ None }
+    ensures targets { targets_of condition_model
+        ≡ sequence_target 0 0 ((collects 1 ∷ []) ∷ (collects 0 ∷ []) ∷ [])
+        ∷ sequence_target 1 0 ((collects 1 ∷ []) ∷ (collects 1 ∷ []) ∷ []) ∷ [] }
+{}
+
+/// A fork in a fork, a house event that is set on one path, two paths to one sequence, and a link to a
+/// second event tree: the top events, and the sequences in the order of their first paths.
+pub fn event_tree_with_a_link()
+    ensures fault { walk_fault event_tree_model ≡ None }
+    ensures targets { targets_of event_tree_model
+        ≡ TopEvent (record { 0 = 0 }) ∷ TopEvent (record { 0 = 1 })
+        ∷ sequence_target 0 0 ((collects 0 ∷ []) ∷ [])
+        ∷ sequence_target 0 1 ((collects 1 ∷ sets_house ∷ collects 2 ∷ [])
+        ∷ (collects 1 ∷ collects 3 ∷ []) ∷ [])
+        ∷ sequence_target 0 3 ((collects 1 ∷ sets_house ∷ collects 4 ∷ []) ∷ []) ∷ [] }
+{}
+
+/// The lines of a fault of the text, of the shape and of a value.
+pub fn lines_of_faults()
+    ensures text { fault_line (codes "a.xml") (record { kind = fault.BadNesting; file = 0; line = 1; name = [] })
+        ≡ codes "scram: a.xml:1: bad nesting\n" }
+    ensures shape { fault_line (codes "b.xml")
+        (record { kind = fault.UnknownElement; file = 1; line = 12; name = codes "if" })
+        ≡ codes "scram: b.xml:12: unknown element if\n" }
+    ensures value { fault_line (codes "c.xml")
+        (record { kind = fault.NotProbability; file = 2; line = 3; name = codes "pump" })
+        ≡ codes "scram: c.xml:3: not a probability pump\n" }
+{}
