@@ -141,3 +141,8 @@ tree_of model (Some tree) = slice_get model.event_trees tree.0
 abbrev pub paths_of : Model → ℕ → Initiating → List Arrival
 paths_of model place initiating =
     arrivals_from (tree_of model initiating.tree) (λ tree. arrivals MAX_DEPTH model place MAX_INSTRUCTIONS tree.start (record { steps = []; forks = [] }))
+
+-- the path arrived: it is no mark
+abbrev pub HasArrived : Arrival → Type 0
+HasArrived too_long = ⊥
+HasArrived (arrives a) = Unit {0}

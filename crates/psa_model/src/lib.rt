@@ -12,9 +12,11 @@ mod ids;
 mod laws;
 mod limits;
 mod model;
+mod path_laws;
 mod product;
 mod settings;
 mod targets;
+mod value_laws;
 mod walks;
 
 pub use draft::{
@@ -39,7 +41,11 @@ pub use model::{
     BasicEvent, EventTree, Factor, FaultTree, Functional, Gate, Group, GroupModel, House,
     Initiating, MAX_DEPTH, Model, NamedBranch, Parameter, RuleDefinition, Sequence, Valued,
 };
+pub use path_laws::{
+    more_levels_change_no_path, paths_are_short, top_events_alone, walks_without_a_fault_end,
+};
 pub use product::{Literal, MAX_ORDER, Product};
 pub use settings::{Algorithm, Input, Mode, Settings};
 pub use targets::{Path, PathStep, Ranks, Target, Targets, Values};
+pub use value_laws::more_levels_change_no_value;
 pub use walks::{Branch, BranchEnd, ForkPath, Instruction, Test};
