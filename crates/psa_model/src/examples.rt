@@ -1,17 +1,21 @@
 //! What the definitions say of small models. The functions do nothing: their contracts are the
 //! examples.
-ghost use Rattle.std.specs.Prelude.{◌≡◌, [], ◌∷◌, codes, map, None, Ok, true};
+ghost use Rattle.std.specs.Prelude.{◌≡◌, ℕ, [], ◌∷◌, codes, map, negsuc, pos, None, Some, Err, Ok, true};
 ghost use Rattle.psa_number.specs.Scaled.{Scaled};
+ghost use Rattle.psa_model.specs.declared.expression.Expression.TheVariants as expression;
 ghost use Rattle.psa_model.specs.declared.fault.FaultKind.TheVariants as fault;
+ghost use Rattle.psa_model.specs.declared.limits.TheConstants.{MAX_VALUE_LEVELS};
+ghost use Rattle.psa_model.specs.declared.model.Model.{Model};
 ghost use Rattle.psa_model.specs.declared.targets.Target.TheVariants.{TopEvent};
 ghost use Rattle.psa_model.specs.ConditionExample.{condition_model, collects, sequence_target};
 ghost use Rattle.psa_model.specs.EventTreeExample.{event_tree_model, sets_house};
-ghost use Rattle.psa_model.specs.Expansion.{expanded_of};
+ghost use Rattle.psa_model.specs.Expansion.{expanded_of, whole_number};
 ghost use Rattle.psa_model.specs.FaultTexts.{fault_line};
 ghost use Rattle.psa_model.specs.GroupExample.{group_model, shared, exactly};
 ghost use Rattle.psa_model.specs.PathFaults.{walk_fault};
 ghost use Rattle.psa_model.specs.PathTargets.{targets_of};
-ghost use Rattle.psa_model.specs.Values.{values_of};
+ghost use Rattle.psa_model.specs.ValueExample.{value_at, scaled, thrice_a_third, failing_at, one_by_zero, fault_of_a};
+ghost use Rattle.psa_model.specs.Values.{exact_value, interval_value, values_of};
 
 /// A group of three members by multiple Greek letters, with the distribution 0.1 and the factors 0.2
 /// and 0.5: its subsets in order, as numbers with bit i for the member at place i; and the quantities
@@ -54,4 +58,31 @@ pub fn lines_of_faults()
     ensures value { fault_line (codes "c.xml")
         (record { kind = fault.NotProbability; file = 2; line = 3; name = codes "pump" })
         ≡ codes "scram: c.xml:3: not a probability pump\n" }
+{}
+
+/// A third times three: before the interval is held to 1 it ends two units above; the exact value is 1.
+pub fn third_times_three()
+    ensures interval { (mission : Scaled) (model : Model)
+        → interval_value MAX_VALUE_LEVELS mission model thrice_a_third
+        ≡ Ok (record { lo = pos 999_999_999_999; hi = pos 1_000_000_000_002 }) }
+    ensures exact { (terms : ℕ) (mission : Scaled) (model : Model)
+        → exact_value MAX_VALUE_LEVELS terms mission model thrice_a_third ≡ record { num = pos 3; den = 3 } }
+    ensures value { (mission : Scaled) → value_at mission (Some thrice_a_third)
+        ≡ Ok (record { lo = pos 999_999_999_999; hi = pos 1_000_000_000_000 } ∷ []) }
+{}
+
+/// The number 10^-20 is between 0 and one unit, and a rate of 10^-6 over 8,760 hours fails with a
+/// probability of 0.00872174299.
+pub fn small_values()
+    ensures number { (mission : Scaled)
+        → value_at mission (Some (expression.Number (scaled 1 (negsuc 19)))) ≡ Ok (record { lo = pos 0; hi = pos 1 } ∷ []) }
+    ensures exponential { value_at (scaled 8760 (pos 0)) (Some (failing_at (scaled 1 (negsuc 5))))
+        ≡ Ok (record { lo = pos 8_721_742_990; hi = pos 8_721_742_995 } ∷ []) }
+{}
+
+/// The fault of an event without an expression, of a division by 0, and of a value above 1.
+pub fn faults_of_values()
+    ensures missing { (mission : Scaled) → value_at mission None ≡ Err (fault_of_a fault.NoValue) }
+    ensures divisor { (mission : Scaled) → value_at mission (Some one_by_zero) ≡ Err (fault_of_a fault.ZeroDivisor) }
+    ensures above { (mission : Scaled) → value_at mission (Some (whole_number 2)) ≡ Err (fault_of_a fault.NotProbability) }
 {}

@@ -25,7 +25,8 @@ pub use draft::{
     DraftReference, DraftTest, EventKind,
 };
 pub use examples::{
-    condition_in_a_rule, event_tree_with_a_link, group_of_three_members, lines_of_faults,
+    condition_in_a_rule, event_tree_with_a_link, faults_of_values, group_of_three_members,
+    lines_of_faults, small_values, third_times_three,
 };
 pub use expanded::{Expanded, ExpandedEvent};
 pub use expression::{Expression, ExpressionOperator};
