@@ -89,22 +89,22 @@ module _ (ns : List Node) (left right : ℕ) (s : ℕ → Bool) where
   or-false true = refl
   or-false false = refl
 
-  pub dominant-left : (c : Connective) (id : ℕ) → id ≡ dominant_of c → left ≡ id → truth ns id s ≡ apply c (truth ns left s) (truth ns right s)
+  pub dominant-left : (c : Connective) (id : ℕ) → id ≡ (dominant_of c).0 → left ≡ id → truth ns id s ≡ apply c (truth ns left s) (truth ns right s)
   dominant-left And id d e = zero id d ∙ ap (λ x. x && truth ns right s) (sym (zero left (e ∙ d)))
   dominant-left Or id d e = one id d ∙ ap (λ x. x || truth ns right s) (sym (one left (e ∙ d)))
 
-  pub dominant-right : (c : Connective) (id : ℕ) → id ≡ dominant_of c → right ≡ id → truth ns id s ≡ apply c (truth ns left s) (truth ns right s)
+  pub dominant-right : (c : Connective) (id : ℕ) → id ≡ (dominant_of c).0 → right ≡ id → truth ns id s ≡ apply c (truth ns left s) (truth ns right s)
   dominant-right And id d e = zero id d ∙ sym (and-false (truth ns left s)) ∙ ap (λ x. truth ns left s && x) (sym (zero right (e ∙ d)))
   dominant-right Or id d e = one id d ∙ sym (or-true (truth ns left s)) ∙ ap (λ x. truth ns left s || x) (sym (one right (e ∙ d)))
 
-  pub neutral-left : (c : Connective) (id : ℕ) → id ≡ neutral_of c → left ≡ id → truth ns right s ≡ apply c (truth ns left s) (truth ns right s)
+  pub neutral-left : (c : Connective) (id : ℕ) → id ≡ (neutral_of c).0 → left ≡ id → truth ns right s ≡ apply c (truth ns left s) (truth ns right s)
   neutral-left And id d e = ap (λ x. x && truth ns right s) (sym (one left (e ∙ d)))
   neutral-left Or id d e = ap (λ x. x || truth ns right s) (sym (zero left (e ∙ d)))
 
-  pub neutral-right : (c : Connective) (id : ℕ) → id ≡ neutral_of c → right ≡ id → truth ns left s ≡ apply c (truth ns left s) (truth ns right s)
+  pub neutral-right : (c : Connective) (id : ℕ) → id ≡ (neutral_of c).0 → right ≡ id → truth ns left s ≡ apply c (truth ns left s) (truth ns right s)
   neutral-right And id d e = sym (and-true (truth ns left s)) ∙ ap (λ x. truth ns left s && x) (sym (one right (e ∙ d)))
   neutral-right Or id d e = sym (or-false (truth ns left s)) ∙ ap (λ x. truth ns left s || x) (sym (zero right (e ∙ d)))
 
-pub dominant-stands : (c : Connective) (ns : List Node) (id : ℕ) → id ≡ dominant_of c → stands Bdd 0 ns id ≡ true
+pub dominant-stands : (c : Connective) (ns : List Node) (id : ℕ) → id ≡ (dominant_of c).0 → stands Bdd 0 ns id ≡ true
 dominant-stands And ns id d = stands-terminal Bdd 0 ns id (omega arith)
 dominant-stands Or ns id d = stands-terminal Bdd 0 ns id (omega arith)

@@ -4,6 +4,7 @@ use Rattle.std.proofs.lemmas.Bool.{cases_Bool}
 use Rattle.psa_nodes.specs.declared.node.Kind.{Kind}
 use Rattle.psa_nodes.specs.declared.node.Kind.TheVariants.{Bdd}
 use Rattle.psa_nodes.specs.declared.node.Node.{Node}
+use Rattle.psa_nodes.specs.declared.node.TheConstants.{MAX_RANKS}
 use Rattle.psa_nodes.specs.Readings.{Reading, node_at, truth, stands, first_literal}
 use Rattle.psa_nodes.specs.Nodes.{AllFit, Grown, IsReduced}
 use Rattle.psa_nodes.specs.Progress.{IsResult}
@@ -107,9 +108,10 @@ result-kept c {before} {now} g fit left right id sl sr r =
     (sym (truth-kept g right s (stands-below Bdd 0 before right sr))))
 
 -- the results on the sides make a ready result
-pub ready-sides : (c : Connective) (ns : List Node) (fit : AllFit ns) (var left left_hi left_lo right right_hi right_lo hi lo : ℕ) → stands Bdd var ns left ≡ true → stands Bdd var ns right ≡ true → IsSplit ns var left left_hi left_lo → IsSplit ns var right right_hi right_lo
+pub ready-sides : (c : Connective) (ns : List Node) (fit : AllFit ns) (var : ℕ) → var < MAX_RANKS → (left left_hi left_lo right right_hi right_lo hi lo : ℕ) → stands Bdd var ns left ≡ true → stands Bdd var ns right ≡ true → IsSplit ns var left left_hi left_lo → IsSplit ns var right right_hi right_lo
     → IsResult (operation_of c) 0 ns left_hi right_hi hi → IsResult (operation_of c) 0 ns left_lo right_lo lo → IsReady c ns left right var hi lo
-ready-sides c ns fit var left left_hi left_lo right right_hi right_lo hi lo sl sr l r h o = record {
+ready-sides c ns fit var bound left left_hi left_lo right right_hi right_lo hi lo sl sr l r h o = record {
+  bounded = bound;
   left_stands = sl;
   right_stands = sr;
   hi_stands = past-result c ns fit var left_hi right_hi hi l.hi_stands r.hi_stands h;

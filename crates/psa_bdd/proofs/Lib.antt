@@ -3,5 +3,4 @@ pub mod Keys
 pub mod Levels
 pub mod Branches
 pub mod Recursion
-pub mod Ranks
 pub mod CallerLemmas

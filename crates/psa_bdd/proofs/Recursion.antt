@@ -3,6 +3,7 @@ use Rattle.std.proofs.Common.{◌≡◌, ℕ, ◌+◌, ◌*◌, ◌^◌, ◌<◌
 use Rattle.psa_nodes.specs.declared.node.Kind.{Kind}
 use Rattle.psa_nodes.specs.declared.node.Kind.TheVariants.{Bdd}
 use Rattle.psa_nodes.specs.declared.node.NodeId.{NodeId}
+use Rattle.psa_nodes.specs.declared.node.TheConstants.{MAX_RANKS}
 use Rattle.psa_nodes.specs.declared.node.NodeError.{NodeError}
 use Rattle.psa_nodes.specs.Readings.{Reading, truth, stands}
 use Rattle.psa_nodes.specs.Nodes.{AllFit, Grown}
@@ -18,7 +19,7 @@ use Rattle.psa_bdd.proofs.Branches.{split-kept, high-origin, low-origin, result-
 module _ (c : Connective) (old : Table) (fit : AllFit old.nodes) (left right : NodeId) (var left_hi left_lo right_hi right_lo : ℕ)
     (l : IsSplit old.nodes var left.0 left_hi left_lo) (r : IsSplit old.nodes var right.0 right_hi right_lo)
     (sl : stands Bdd var old.nodes left.0 ≡ true) (sr : stands Bdd var old.nodes right.0 ≡ true)
-    (least : 2 * var ≡ pair_level old.nodes left.0 right.0) (bound : var < 2 ^ 32) where
+    (least : 2 * var ≡ pair_level old.nodes left.0 right.0) (bound : var < MAX_RANKS) where
   abbrev Wide : Kind → ℕ → Reading → Type 0
   Wide = IsCofactors c (truth old.nodes left.0) (truth old.nodes right.0)
 
@@ -109,7 +110,7 @@ module _ (c : Connective) (old : Table) (fit : AllFit old.nodes) (left right : N
           (stands-weaker Bdd (var + 1) 0 mid.nodes left_hi (omega arith) (left_mid mid high.progress.nodes high.progress.table.fit).hi_stands)
           (stands-weaker Bdd (var + 1) 0 mid.nodes right_hi (omega arith) (right_mid mid high.progress.nodes high.progress.table.fit).hi_stands)
           of_high in
-          ready-sides c second.nodes f var left.0 left_hi left_lo right.0 right_hi right_lo hi.0 lo.0
+          ready-sides c second.nodes f var bound left.0 left_hi left_lo right.0 right_hi right_lo hi.0 lo.0
           (stands-kept g Bdd var left.0 sl) (stands-kept g Bdd var right.0 sr)
           (left_mid second g f) (right_mid second g f) h of_low
 

@@ -1,10 +1,13 @@
 -- Conjunction and disjunction of decision diagrams (Bryant).
-use Rattle.std.specs.Prelude.{◌≡◌, ◌+◌, ℕ, min, Bool, true, List, ◌&&◌, ◌||◌, nat_le, Result, if◌then◌else◌}
+use Rattle.std.specs.Prelude.{◌≡◌, ◌<◌, ◌+◌, ℕ, min, Bool, true, List, ◌&&◌, ◌||◌, nat_le, Result, if◌then◌else◌}
 use Rattle.psa_nodes.specs.declared.node.Kind.{Kind}
 use Rattle.psa_nodes.specs.declared.node.Kind.TheVariants.{Bdd}
 use Rattle.psa_nodes.specs.declared.node.Node.{Node}
 use Rattle.psa_nodes.specs.declared.node.NodeId.{NodeId}
 use Rattle.psa_nodes.specs.declared.node.MemoKey.{MemoKey}
+use Rattle.psa_nodes.specs.declared.node.TheConstants.{MAX_RANKS}
+use Rattle.psa_nodes.specs.declared.node.TheConstants.NodeId.{FALSE, TRUE}
+use Rattle.psa_nodes.specs.declared.node.TheConstants.MemoKey.{NO_LIMIT}
 use Rattle.psa_nodes.specs.declared.node.NodeError.{NodeError}
 use Rattle.psa_nodes.specs.declared.node.Operation.{Operation}
 use Rattle.psa_nodes.specs.declared.node.Operation.TheVariants as operations
@@ -25,20 +28,20 @@ operation_of And = operations.And
 operation_of Or = operations.Or
 
 -- the terminal that decides alone, and the one that leaves the other operand
-abbrev pub dominant_of : Connective → ℕ
-dominant_of And = 0
-dominant_of Or = 1
+abbrev pub dominant_of : Connective → NodeId
+dominant_of And = FALSE
+dominant_of Or = TRUE
 
-abbrev pub neutral_of : Connective → ℕ
-neutral_of And = 1
-neutral_of Or = 0
+abbrev pub neutral_of : Connective → NodeId
+neutral_of And = TRUE
+neutral_of Or = FALSE
 
 -- both orders of the operands have one key, with the smaller id first
 abbrev pub key_of : Connective → NodeId → NodeId → MemoKey
 key_of connective left right =
     if nat_le left.0 right.0
-    then record { operation = operation_of connective; left = left; right = right; limit = 0 }
-    else record { operation = operation_of connective; left = right; right = left; limit = 0 }
+    then record { operation = operation_of connective; left = left; right = right; limit = NO_LIMIT }
+    else record { operation = operation_of connective; left = right; right = left; limit = NO_LIMIT }
 
 -- where two operands stand: the least of their levels
 abbrev pub pair_level : List Node → ℕ → ℕ → ℕ
@@ -62,7 +65,7 @@ IsCombining connective left right before now answer =
 abbrev pub IsTrivial : Connective → ℕ → ℕ → ℕ → Type 0
 IsTrivial connective left right id =
     (ns : List Node) → AllFit ns → stands Bdd 0 ns left ≡ true → stands Bdd 0 ns right ≡ true
-    → IsResult (operation_of connective) 0 ns left right id
+    → IsResult (operation_of connective) NO_LIMIT ns left right id
 
 -- a diagram is its sides by a variable, which stand past it
 pub record IsSplit (ns : List Node) (var id hi lo : ℕ) : Type 0 where
@@ -72,6 +75,7 @@ pub record IsSplit (ns : List Node) (var id hi lo : ℕ) : Type 0 where
 
 -- the sides that a result is made of
 pub record IsReady (connective : Connective) (ns : List Node) (left right var hi lo : ℕ) : Type 0 where
+  pub bounded : var < MAX_RANKS
   pub left_stands : stands Bdd var ns left ≡ true
   pub right_stands : stands Bdd var ns right ≡ true
   pub hi_stands : stands Bdd (var + 1) ns hi ≡ true

@@ -1,4 +1,5 @@
-ghost use Rattle.std.specs.Prelude.{◌≡◌, ◌≤◌, IfSome, IfNone};
+ghost use Rattle.std.specs.Prelude.{◌≡◌, IfSome, IfNone};
+ghost use Rattle.psa_nodes.specs.Readings.{IsInner};
 ghost use Rattle.psa_bdd.specs.Combined.{operation_of, dominant_of, neutral_of, key_of, IsTrivial};
 
 use psa_nodes::{MemoKey, NodeId, Operation};
@@ -23,21 +24,21 @@ impl Connective {
 
     /// The terminal that decides the result alone.
     fn dominant(self) -> NodeId
-        ensures { result.0 ≡ dominant_of self }
+        ensures { result ≡ dominant_of self }
     {
         match self {
-            Connective::And => NodeId(0),
-            Connective::Or => NodeId(1),
+            Connective::And => NodeId::FALSE,
+            Connective::Or => NodeId::TRUE,
         }
     }
 
     /// The terminal that leaves the other operand as the result.
     fn neutral(self) -> NodeId
-        ensures { result.0 ≡ neutral_of self }
+        ensures { result ≡ neutral_of self }
     {
         match self {
-            Connective::And => NodeId(1),
-            Connective::Or => NodeId(0),
+            Connective::And => NodeId::TRUE,
+            Connective::Or => NodeId::FALSE,
         }
     }
 
@@ -51,14 +52,14 @@ impl Connective {
                 operation,
                 left,
                 right,
-                limit: 0,
+                limit: MemoKey::NO_LIMIT,
             }
         } else {
             MemoKey {
                 operation,
                 left: right,
                 right: left,
-                limit: 0,
+                limit: MemoKey::NO_LIMIT,
             }
         }
     }
@@ -66,7 +67,7 @@ impl Connective {
     /// The result where an operand is a terminal or both are one node, whatever the table.
     pub fn trivial(self, left: NodeId, right: NodeId) -> Option<NodeId>
         ensures found { IfSome result (λ id. IsTrivial self left.0 right.0 id.0) }
-        ensures inner { IfNone result ((2 ≤ left.0) × (2 ≤ right.0)) }
+        ensures inner { IfNone result (IsInner left.0 × IsInner right.0) }
     {
         let dominant = self.dominant();
         let neutral = self.neutral();

@@ -7,6 +7,3 @@ mod connective;
 mod sides;
 
 pub use combine::{and, or};
-
-#[cfg(test)]
-mod tests;

@@ -1,8 +1,9 @@
-ghost use Rattle.std.specs.Prelude.{◌≡◌, ◌≤◌, ◌<◌, ◌+◌, ◌*◌, ◌^◌, true, Some, List};
+ghost use Rattle.std.specs.Prelude.{◌≡◌, ◌≤◌, ◌<◌, ◌+◌, ◌*◌, true, Some, List};
 ghost use Rattle.psa_nodes.specs.declared.node.Kind.TheVariants.{Bdd};
 ghost use Rattle.psa_nodes.specs.declared.node.Node.{Node};
-ghost use Rattle.psa_nodes.specs.Readings.{node_at, stands};
-ghost use Rattle.psa_nodes.specs.Nodes.{AllFit};
+ghost use Rattle.psa_nodes.specs.declared.node.TheConstants.{MAX_RANKS};
+ghost use Rattle.psa_nodes.specs.Readings.{node_at, stands, IsInner};
+ghost use Rattle.psa_nodes.specs.Nodes.{AllFit, IsBounded};
 ghost use Rattle.psa_bdd.specs.Combined.{IsSplit, pair_level};
 
 use psa_nodes::{Node, NodeId, NodeTable, Steps};
@@ -21,7 +22,8 @@ pub struct Sides {
 /// The sides of a diagram by a variable that is not past its own.
 fn sides_at(id: NodeId, node: Node, var: u32) -> (NodeId, NodeId)
     requires { var ≤ node.var }
-    ensures { (ns : List Node) → AllFit ns → node_at ns id.0 ≡ Some node → node.kind ≡ Bdd → IsSplit ns var id.0 result.0.0 result.1.0 }
+    ensures { (ns : List Node) → AllFit ns → node_at ns id.0 ≡ Some node → node.kind ≡ Bdd
+        → IsSplit ns var id.0 result.0.0 result.1.0 }
 {
     if node.var == var {
         (node.hi, node.lo)
@@ -39,13 +41,14 @@ pub fn split<L: Ledger>(
 ) -> Sides
     requires left { stands Bdd 0 table.now.nodes left.0 ≡ true }
     requires right { stands Bdd 0 table.now.nodes right.0 ≡ true }
-    requires inner { (2 ≤ left.0) × (2 ≤ right.0) }
+    requires inner { IsInner left.0 × IsInner right.0 }
+    requires bounded { IsBounded table.now.nodes }
     ensures left { IsSplit table.now.nodes result.var left.0 result.left_hi.0 result.left_lo.0 }
     ensures right { IsSplit table.now.nodes result.var right.0 result.right_hi.0 result.right_lo.0 }
     ensures left_stands { stands Bdd result.var table.now.nodes left.0 ≡ true }
     ensures right_stands { stands Bdd result.var table.now.nodes right.0 ≡ true }
     ensures least { 2 * result.var ≡ pair_level table.now.nodes left.0 right.0 }
-    ensures bound { result.var < 2 ^ 32 }
+    ensures bound { result.var < MAX_RANKS }
     ensures turns { steps.new ≡ steps.old + 2 }
 {
     let first = table.node(left, steps);

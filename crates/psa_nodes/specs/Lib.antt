@@ -4,4 +4,5 @@ pub mod Families
 pub mod Operations
 pub mod Table
 pub mod Cofactors
+pub mod Tails
 pub mod Progress

@@ -3,6 +3,7 @@ use Rattle.std.specs.Prelude.{◌≡◌, ◌≢◌, ◌≤◌, ◌↔◌, ◌⊎
 use Rattle.psa_nodes.specs.declared.node.Node.{Node}
 use Rattle.psa_nodes.specs.declared.node.NodeId.{NodeId}
 use Rattle.psa_nodes.specs.declared.node.MemoKey.{MemoKey}
+use Rattle.psa_nodes.specs.declared.node.TheConstants.MemoKey.{NO_RIGHT, NO_LIMIT}
 use Rattle.psa_nodes.specs.declared.node.NodeError.{NodeError}
 use Rattle.psa_nodes.specs.declared.node.NodeError.TheVariants.{Full, Memory}
 use Rattle.psa_nodes.specs.Readings.{node_at, stands, reading, node_reading, IsSameReading}
@@ -20,11 +21,11 @@ abbrev pub table_of : List Node → List (MemoKey × NodeId) → Option ℕ → 
 table_of nodes entries limit refused =
     record { nodes = nodes; entries = entries; limit = limit; refused = refused }
 
--- A remembered entry is right: an operation of one node has the right operand 0, one without a limit the
--- limit 0; the operands and the result stand, and the result is what the operation computes.
+-- A remembered entry is right: an operation of one node has no right operand, one without a limit no
+-- limit; the operands and the result stand, and the result is what the operation computes.
 pub record IsRight (ns : List Node) (key : MemoKey) (result : NodeId) : Type 0 where
-  pub no_right : takes_right key.operation ≡ false → key.right.0 ≡ 0
-  pub no_limit : takes_limit key.operation ≡ false → key.limit ≡ 0
+  pub no_right : takes_right key.operation ≡ false → key.right ≡ NO_RIGHT
+  pub no_limit : takes_limit key.operation ≡ false → key.limit ≡ NO_LIMIT
   pub left_stands : stands (operand_kind key.operation) 0 ns key.left.0 ≡ true
   pub right_stands : stands (operand_kind key.operation) 0 ns key.right.0 ≡ true
   pub result_stands : stands (result_kind key.operation) 0 ns result.0 ≡ true

@@ -4,7 +4,7 @@ ghost use Rattle.psa_nodes.specs.Readings.{node_at, stands};
 ghost use Rattle.psa_nodes.specs.Nodes.{IsNew, IsReduced};
 ghost use Rattle.psa_nodes.specs.Table.{table_of, IsRight, Lacks, IsTable, MakesNode};
 
-use crate::node::{Kind, MemoKey, Node, NodeError, NodeId};
+use crate::node::{Kind, MemoKey, Node, NodeError, NodeId, TERMINALS};
 use crate::steps::Steps;
 use indexmap::{IndexMap, IndexSet};
 use std::alloc::{AllocError, Global};
@@ -40,7 +40,7 @@ fn place(nodes: &IndexSet<Node>, node: Node) -> Option<NodeId>
 {
     let _small = nodes.len();
     let (index, _) = nodes.get_full(&node)?;
-    Some(NodeId(index as u64 + 2))
+    Some(NodeId(index as u64 + TERMINALS))
 }
 
 /// Adds the node where it is not in the set, by one look-up.
@@ -54,7 +54,7 @@ fn add(nodes: &mut IndexSet<Node>, node: Node) -> Result<NodeId, NodeError>
     match nodes.insert_full(node) {
         Ok((index, _)) => {
             let _small = nodes.len();
-            Ok(NodeId(index as u64 + 2))
+            Ok(NodeId(index as u64 + TERMINALS))
         }
         Err(_) => Err(NodeError::Memory),
     }
@@ -123,7 +123,7 @@ impl NodeTable {
         ensures table { IsTable self.now }
     {
         steps.tick();
-        match self.nodes.get_index((id.0 - 2) as usize) {
+        match self.nodes.get_index((id.0 - TERMINALS) as usize) {
             Some(node) => *node,
             None => unreachable!(),
         }
@@ -195,7 +195,7 @@ impl NodeTable {
         ensures table { IsTable self.new }
     {
         self.check();
-        if hi.0 == 0 {
+        if hi == NodeId::EMPTY {
             return Ok(lo);
         }
         self.enter(Node {

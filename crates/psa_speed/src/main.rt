@@ -1,13 +1,14 @@
 //! Workloads for the node table, to time. `conjunction EVENTS GAP` is the conjunction of all clauses "event i or
-//! event i + gap occurs"; `cut-sets PLANTS LIMIT..` are the minimal cut sets within each limit, one after another on
-//! one table, of plants of which one fails. With no words it runs both, small.
+//! event i + gap occurs" of at most 2,048 events; `cut-sets PLANTS LIMIT..` are the minimal cut sets within each limit, one after another on
+//! one table, of at most 54 plants of which one fails. With no words it runs both, small.
 #![tactic(auto)]
 
 mod clauses;
 mod diagrams;
 mod plants;
 
-use psa_nodes::{NodeId, NodeTable};
+use plants::MAX_PLANTS;
+use psa_nodes::{MAX_RANKS, NodeId, NodeTable};
 use std::marker::Brand;
 use std::sync::ledger::Blank;
 use std::{env, io};
@@ -40,7 +41,7 @@ fn main(rt: HostRuntime) -> io::Result<()> {
 /// The conjunction of clauses.
 fn conjunction(rt: &HostRuntime, events: u32, gap: u32) -> io::Result<()> {
     let mut table = NodeTable::new(rt.alloc());
-    match clauses::conjunction::<Brand>(&mut table, events, gap, Blank::new(1)) {
+    match clauses::conjunction::<Brand>(&mut table, events.min(MAX_RANKS), gap, Blank::new(1)) {
         Ok(root) => tell(rt, &table, root),
         Err(_) => println!(rt; "out of memory"),
     }
@@ -49,7 +50,7 @@ fn conjunction(rt: &HostRuntime, events: u32, gap: u32) -> io::Result<()> {
 /// The minimal cut sets of plants, within each limit.
 fn cut_sets(rt: &HostRuntime, count: u16, limits: &[u8]) -> io::Result<()> {
     let mut table = NodeTable::new(rt.alloc());
-    let Ok(root) = plants::plants::<Brand>(&mut table, count, Blank::new(1)) else {
+    let Ok(root) = plants::plants::<Brand>(&mut table, count.min(MAX_PLANTS), Blank::new(1)) else {
         return println!(rt; "out of memory");
     };
     tell(rt, &table, root)?;

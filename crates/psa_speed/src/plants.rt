@@ -1,10 +1,11 @@
-ghost use Rattle.std.specs.Prelude.{◌≡◌, ◌≤◌, ◌<◌, ◌^◌, true, IfOk};
+ghost use Rattle.std.specs.Prelude.{◌≡◌, ◌+◌, ◌*◌, ◌≤◌, ◌<◌, true, IfOk};
 ghost use Rattle.psa_nodes.specs.declared.node.Kind.TheVariants.{Bdd};
 ghost use Rattle.psa_nodes.specs.Readings.{stands};
-ghost use Rattle.psa_zbdd.specs.CutSets.{AreRanksSmall};
+ghost use Rattle.psa_nodes.specs.declared.node.TheConstants.{MAX_RANKS};
+ghost use Rattle.psa_nodes.specs.Nodes.{IsBounded};
 ghost use Rattle.psa_speed.specs.Diagrams.{IsDiagram};
 
-use crate::diagrams::{FALSE, TRUE, both, either, or_event, with_event};
+use crate::diagrams::{both, either, or_event, with_event};
 use psa_nodes::{NodeError, NodeId, NodeTable, Steps};
 use psa_zbdd::minimal_of_bdd;
 use std::sync::ledger::{Blank, Ledger};
@@ -22,17 +23,20 @@ const TOGETHER: u32 = 3;
 /// share, and one of up to three events of a train of its own.
 const ROW: u32 = 9 * TOGETHER;
 
+/// Plants whose events have ranks.
+pub const MAX_PLANTS: u16 = 54;
+
 /// Some component fails, of those whose ranks stand a row apart.
 fn components<L: Ledger>(
     table: &mut NodeTable,
     first: u32,
     steps: &mut Steps<L>,
 ) -> Result<NodeId, NodeError>
-    requires first { first < 2 ^ 30 }
-    requires ranks { AreRanksSmall table.old.nodes }
+    requires first { first + 3 * ROW < MAX_RANKS }
+    requires bounded { IsBounded table.old.nodes }
     ensures { IfOk result (λ id. IsDiagram table.old.nodes table.new.nodes id.0) }
 {
-    let mut any = FALSE;
+    let mut any = NodeId::FALSE;
     for row in (0..ROWS).rev() {
         any = or_event(table, first + row * ROW, any, steps)?;
     }
@@ -46,12 +50,12 @@ fn support<L: Ledger>(
     count: u32,
     steps: &mut Steps<L>,
 ) -> Result<NodeId, NodeError>
-    requires first { first < 2 ^ 30 }
+    requires first { first + 2 * TOGETHER < MAX_RANKS }
     requires count { count ≤ 3 }
-    requires ranks { AreRanksSmall table.old.nodes }
+    requires bounded { IsBounded table.old.nodes }
     ensures { IfOk result (λ id. IsDiagram table.old.nodes table.new.nodes id.0) }
 {
-    let mut all = TRUE;
+    let mut all = NodeId::TRUE;
     for i in (0..count).rev() {
         all = with_event(table, first + i * TOGETHER, all, steps)?;
     }
@@ -65,9 +69,9 @@ fn train<L: Ledger>(
     train: u32,
     steps: &mut Steps<L>,
 ) -> Result<NodeId, NodeError>
-    requires base { base < 2 ^ 29 }
-    requires train { train < 4 }
-    requires ranks { AreRanksSmall table.old.nodes }
+    requires base { base + ROWS * ROW ≤ MAX_RANKS }
+    requires train { train < TRAINS }
+    requires bounded { IsBounded table.old.nodes }
     ensures { IfOk result (λ id. IsDiagram table.old.nodes table.new.nodes id.0) }
 {
     let next = (train + 1) % TRAINS;
@@ -91,13 +95,14 @@ fn plant<L: Ledger>(
     plant: u16,
     steps: &mut Steps<L>,
 ) -> Result<NodeId, NodeError>
-    requires { AreRanksSmall table.old.nodes }
+    requires plant { plant < MAX_PLANTS }
+    requires bounded { IsBounded table.old.nodes }
     ensures { IfOk result (λ id. IsDiagram table.old.nodes table.new.nodes id.0) }
 {
     let plant = u32::from(plant);
     let base = plant / TOGETHER * (ROWS * ROW) + plant % TOGETHER;
-    let mut one = FALSE;
-    let mut two = FALSE;
+    let mut one = NodeId::FALSE;
+    let mut two = NodeId::FALSE;
     for i in 0..TRAINS {
         let fails = train(table, base, i, steps)?;
         let second = both(table, one, fails, steps)?;
@@ -113,14 +118,15 @@ pub fn plants<L: Ledger>(
     count: u16,
     blank: Blank,
 ) -> Result<NodeId, NodeError>
+    requires count { count ≤ MAX_PLANTS }
     requires name { blank.name ≡ L.name }
     requires parts { blank.parts ≡ L.parts }
     requires some { 0 < blank.parts }
-    requires ranks { AreRanksSmall table.old.nodes }
+    requires bounded { IsBounded table.old.nodes }
     ensures { IfOk result (λ id. IsDiagram table.old.nodes table.new.nodes id.0) }
 {
     let mut steps = Steps::<L>::begin(blank);
-    let mut any = FALSE;
+    let mut any = NodeId::FALSE;
     for i in (0..count).rev() {
         let fails = plant(table, i, &mut steps)?;
         any = either(table, fails, any, &mut steps)?;
@@ -139,7 +145,7 @@ pub fn cut_sets<L: Ledger>(
     requires parts { blank.parts ≡ L.parts }
     requires some { 0 < blank.parts }
     requires root { stands Bdd 0 table.old.nodes root.0 ≡ true }
-    requires ranks { AreRanksSmall table.old.nodes }
+    requires bounded { IsBounded table.old.nodes }
     ensures { IfOk result (λ _. IsDiagram table.old.nodes table.new.nodes root.0) }
 {
     let mut steps = Steps::<L>::begin(blank);

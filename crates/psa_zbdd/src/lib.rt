@@ -1,19 +1,14 @@
-//! Families of sets over the shared node table: union and difference (Minato, Rauzy), and the minimal cut sets
-//! of a decision diagram (Rauzy), by recursion with remembered results.
+//! Families of sets over the shared node table: union (Minato), subset removal and the minimal cut sets of a
+//! decision diagram (Rauzy), by recursion with remembered results.
 #![tactic(auto)]
 
 mod cut_sets;
-mod differences;
 mod making;
 mod sides;
+mod subset_removal;
 mod unions;
 mod within;
 
 pub use cut_sets::minimal_of_bdd;
-pub use differences::without;
+pub use subset_removal::without;
 pub use unions::union;
-
-#[cfg(test)]
-mod limit_tests;
-#[cfg(test)]
-mod tests;

@@ -1,8 +1,8 @@
 ghost use Rattle.std.specs.Prelude.{◌≡◌, ◌≤◌, ◌<◌, ◌+◌, true, Some, IfSome, IfNone, List};
 ghost use Rattle.psa_nodes.specs.declared.node.Kind.TheVariants.{Zbdd};
 ghost use Rattle.psa_nodes.specs.declared.node.Node.{Node};
-ghost use Rattle.psa_nodes.specs.Readings.{node_at, stands};
-ghost use Rattle.psa_nodes.specs.Nodes.{AllFit};
+ghost use Rattle.psa_nodes.specs.Readings.{node_at, stands, IsTerminal};
+ghost use Rattle.psa_nodes.specs.Nodes.{AllFit, IsBounded};
 ghost use Rattle.psa_nodes.specs.Table.{IsTable};
 ghost use Rattle.psa_zbdd.specs.Sides.{IsSplit, AreSides, OneIsInner, IsLeast};
 
@@ -23,10 +23,10 @@ pub struct Sides {
 fn read<L: Ledger>(table: &NodeTable, id: NodeId, steps: &mut Steps<L>) -> Option<Node>
     requires { stands Zbdd 0 table.now.nodes id.0 ≡ true }
     ensures node { IfSome result (λ n. node_at table.now.nodes id.0 ≡ Some n) }
-    ensures terminal { IfNone result (id.0 < 2) }
+    ensures terminal { IfNone result (IsTerminal id.0) }
     ensures turns { steps.new ≤ steps.old + 1 }
 {
-    if id.0 < 2 {
+    if id.is_terminal() {
         return None;
     }
     Some(table.node(id, steps))
@@ -52,17 +52,18 @@ fn least_variable(left: Option<Node>, right: Option<Node>) -> u32
 /// The sides of a family by a variable that is not past its own: a terminal and a later node have no set with
 /// it.
 fn sides_at(id: NodeId, node: Option<Node>, var: u32) -> (NodeId, NodeId)
-    requires terminal { IfNone node (id.0 < 2) }
+    requires terminal { IfNone node (IsTerminal id.0) }
     requires before { IfSome node (λ n. var ≤ n.var) }
-    ensures { (ns : List Node) → AllFit ns → stands Zbdd 0 ns id.0 ≡ true → IfSome node (λ n. node_at ns id.0 ≡ Some n) → IsSplit ns var id.0 result.0.0 result.1.0 }
+    ensures { (ns : List Node) → AllFit ns → stands Zbdd 0 ns id.0 ≡ true
+        → IfSome node (λ n. node_at ns id.0 ≡ Some n) → IsSplit ns var id.0 result.0.0 result.1.0 }
 {
     let Some(node) = node else {
-        return (NodeId(0), id);
+        return (NodeId::EMPTY, id);
     };
     if node.var == var {
         (node.hi, node.lo)
     } else {
-        (NodeId(0), id)
+        (NodeId::EMPTY, id)
     }
 }
 
@@ -75,7 +76,8 @@ pub fn split<L: Ledger>(
 ) -> Sides
     requires left { stands Zbdd 0 table.now.nodes left.0 ≡ true }
     requires right { stands Zbdd 0 table.now.nodes right.0 ≡ true }
-    requires inner { 3 ≤ left.0 + right.0 }
+    requires inner { ¬ (IsTerminal left.0 × IsTerminal right.0) }
+    requires bounded { IsBounded table.now.nodes }
     ensures sides { AreSides table.now.nodes left right result }
     ensures turns { steps.new ≤ steps.old + 2 }
 {

@@ -27,7 +27,7 @@ combine-requires g t c κs within =
         within,
         (
           stands-weaker Bdd (s.var + 1) 0 old.nodes s.left_hi.0 (omega arith) e.left.hi_stands,
-          stands-weaker Bdd (s.var + 1) 0 old.nodes s.right_hi.0 (omega arith) e.right.hi_stands,
+          (stands-weaker Bdd (s.var + 1) 0 old.nodes s.right_hi.0 (omega arith) e.right.hi_stands, c.requires.bounded),
         ),
       ),
     )
@@ -56,7 +56,10 @@ combine-requires-2 g t c κs within =
         within,
         (
           left_lo_stands a.connective old c.check.ensures.fit a.left a.right s.var s.left_hi.0 s.left_lo.0 s.right_hi.0 s.right_lo.0 e.left e.right e.left_stands e.right_stands e.least e.bound mid p.nodes p.table.fit,
-          right_lo_stands a.connective old c.check.ensures.fit a.left a.right s.var s.left_hi.0 s.left_lo.0 s.right_hi.0 s.right_lo.0 e.left e.right e.left_stands e.right_stands e.least e.bound mid p.nodes p.table.fit,
+          (
+            right_lo_stands a.connective old c.check.ensures.fit a.left a.right s.var s.left_hi.0 s.left_lo.0 s.right_hi.0 s.right_lo.0 e.left e.right e.left_stands e.right_stands e.least e.bound mid p.nodes p.table.fit,
+            p.bounded c.requires.bounded,
+          ),
         ),
       ),
     )

@@ -17,7 +17,7 @@ use Rattle.psa_bdd.proofs.Branches.{own-origin, made-result}
 use Rattle.psa_bdd.proofs.combine.finish.Goals as goal
 
 -- the node, and then the entry
-module _ (c : Connective) (old : Table) (ok : IsTable old) (left right : NodeId) (var : ℕ) (hi lo : NodeId) (ready : IsReady c old.nodes left.0 right.0 var hi.0 lo.0) (bound : var < 2 ^ 32) where
+module _ (c : Connective) (old : Table) (ok : IsTable old) (left right : NodeId) (var : ℕ) (hi lo : NodeId) (ready : IsReady c old.nodes left.0 right.0 var hi.0 lo.0) where
   abbrev triple : Node
   triple = record { kind = Bdd; var = var; hi = hi; lo = lo }
 
@@ -27,7 +27,7 @@ module _ (c : Connective) (old : Table) (ok : IsTable old) (left right : NodeId)
   asked : (now : Table) (answer : Result NodeId NodeError) → IsTable now → MakesNode triple old now answer → Called now answer
   asked now answer good made =
       call-node triple old ok
-      (record { past = omega arith; origin = own-origin c old.nodes ok.fit left.0 right.0 var hi.0 lo.0 ready (node_reading old.nodes triple) (λ s. refl) })
+      (record { past = omega arith; origin = own-origin c old.nodes ok.fit left.0 right.0 var hi.0 lo.0 ready (node_reading old.nodes triple) (λ s. refl) }) (λ b. ready.bounded)
       now answer good made
 
   module _ (now : Table) (id : NodeId) (good : IsTable now) (made : MakesNode triple old now (Ok id)) where
@@ -47,8 +47,8 @@ module _ (c : Connective) (old : Table) (ok : IsTable old) (left right : NodeId)
 
     its_level : 2 * var ≤ key_level now.nodes (key_of c left right)
     its_level =
-        let l : 2 * var ≤ level now.nodes left.0 = level-stands Bdd var now.nodes left.0 (omega arith) left_now in
-        let r : 2 * var ≤ level now.nodes right.0 = level-stands Bdd var now.nodes right.0 (omega arith) right_now in
+        let l : 2 * var ≤ level now.nodes left.0 = level-stands Bdd var now.nodes left.0 (omega (arith, ready.bounded)) left_now in
+        let r : 2 * var ≤ level now.nodes right.0 = level-stands Bdd var now.nodes right.0 (omega (arith, ready.bounded)) right_now in
         rw (key-level c now.nodes left right) (omega arith)
 
     -- the node stands, and its result is remembered
@@ -68,32 +68,32 @@ pub returns-in_err-id-clause-call : goal.returns-in_err-id-clause-call
 returns-in_err-id-clause-call c =
     let a = c.args in
     let p = err_from_is_err_and c.from_residual.result c.from_residual.ensures.1 in
-    rw (p.1, p.2) (asked a.connective a.table.now c.requires.table a.left a.right a.var a.hi a.lo c.requires.ready (omega (arith, c.ranges.var.fits))
+    rw (p.1, p.2) (asked a.connective a.table.now c.requires.table a.left a.right a.var a.hi a.lo c.requires.ready
     c.bdd_node.new.self (Err c.in_err-id.field-0.0) c.in_err-id.ensures.table c.in_err-id.ensures.made)
 
 pub remember-requires-clause-right : goal.remember-requires-clause-right
 remember-requires-clause-right c =
     let a = c.args in
-    rw c.key.ensures (its_right a.connective a.table.now c.requires.table a.left a.right a.var a.hi a.lo c.requires.ready (omega (arith, c.ranges.var.fits))
+    rw c.key.ensures (its_right a.connective a.table.now c.requires.table a.left a.right a.var a.hi a.lo c.requires.ready
     c.bdd_node.new.self c.in_ok-id.id c.in_ok-id.ensures.table c.in_ok-id.ensures.made)
 
 pub returns-in-Ok-clause-combined : goal.returns-in-Ok-clause-combined
 returns-in-Ok-clause-combined c =
     let a = c.args in
     subst (λ (t : Table). IsResult (operation_of a.connective) 0 t.nodes a.left.0 a.right.0 c.in_ok-id.id.0) (sym c.in-Ok.ensures.ok)
-    (its_result a.connective a.table.now c.requires.table a.left a.right a.var a.hi a.lo c.requires.ready (omega (arith, c.ranges.var.fits))
+    (its_result a.connective a.table.now c.requires.table a.left a.right a.var a.hi a.lo c.requires.ready
     c.bdd_node.new.self c.in_ok-id.id c.in_ok-id.ensures.table c.in_ok-id.ensures.made)
 
 pub returns-in-Ok-clause-call : goal.returns-in-Ok-clause-call
 returns-in-Ok-clause-call c =
     let a = c.args in
-    entered a.connective a.table.now c.requires.table a.left a.right a.var a.hi a.lo c.requires.ready (omega (arith, c.ranges.var.fits))
+    entered a.connective a.table.now c.requires.table a.left a.right a.var a.hi a.lo c.requires.ready
     c.bdd_node.new.self c.in_ok-id.id c.in_ok-id.ensures.table c.in_ok-id.ensures.made
     c.key.result c.key.ensures c.remember.new.self c.in-Ok.ensures.ok c.remember.ensures.table
 
 pub returns-in-Err-clause-call : goal.returns-in-Err-clause-call
 returns-in-Err-clause-call c =
     let a = c.args in
-    wanted a.connective a.table.now c.requires.table a.left a.right a.var a.hi a.lo c.requires.ready (omega (arith, c.ranges.var.fits))
+    wanted a.connective a.table.now c.requires.table a.left a.right a.var a.hi a.lo c.requires.ready
     c.bdd_node.new.self c.in_ok-id.id c.in_ok-id.ensures.table c.in_ok-id.ensures.made
     c.remember.new.self c.in-Err.ensures.err

@@ -1,6 +1,7 @@
-use Rattle.std.proofs.Common.{◌≡◌, ◌*◌, ℕ, min, arith, ap, ◌∙◌}
+use Rattle.std.proofs.Common.{◌≡◌, ◌<◌, ◌*◌, ℕ, min, arith, ap, ◌∙◌}
 use Rattle.psa_nodes.specs.declared.node.Kind.{Kind}
 use Rattle.psa_nodes.specs.declared.node.Kind.TheVariants.{Bdd}
+use Rattle.psa_nodes.specs.declared.node.TheConstants.{MAX_RANKS}
 use Rattle.psa_nodes.specs.Readings.{level, first_literal}
 use Rattle.psa_nodes.proofs.CallerLemmas.{some-inner, stands-at, stands-node, stands-weaker, level-node}
 use Rattle.psa_bdd.proofs.sides.split.Goals as goal
@@ -53,3 +54,12 @@ returns-clause-least g c =
     let second_level : level ns c.args.right.0 ≡ 2 * second.var =
     level-node ns c.args.right.0 second second_there ∙ ap (λ (k : Kind). first_literal k second.var) (stands-at Bdd 0 ns c.args.right.0 second c.requires.right second_there).0 in
     least (level ns c.args.left.0) (level ns c.args.right.0) first.var second.var c.min-var.result first_level second_level c.min-var.ensures
+
+pub returns-clause-bound : goal.returns-clause-bound
+returns-clause-bound g c =
+    let ns = c.args.table.now.nodes in
+    let first = c.node-first.result in
+    let there = c.node-first.ensures.node in
+    let own = c.requires.bounded c.args.left.0 first there in
+    let small : first.var < MAX_RANKS = rw (stands-at Bdd 0 ns c.args.left.0 first c.requires.left there).0 at own in
+    omega (arith, small, c.min-var.ensures)

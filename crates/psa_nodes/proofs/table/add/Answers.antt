@@ -1,5 +1,5 @@
 use Rattle.std.proofs.Common.{reverse, ap}
-use Rattle.psa_nodes.proofs.Places.{found_at, inserted, new-absent}
+use Rattle.psa_nodes.proofs.PlaceLemmas.{found_at, inserted, new-absent}
 use Rattle.psa_nodes.proofs.table.add.Goals as goal
 
 pub returns-in-Ok-clause-at : goal.returns-in-Ok-clause-at

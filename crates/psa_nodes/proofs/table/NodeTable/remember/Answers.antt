@@ -3,9 +3,9 @@ use Rattle.indexmap.proofs.CallerLemmas.{insert_entry-new}
 use Rattle.psa_nodes.specs.declared.node.MemoKey.{MemoKey}
 use Rattle.psa_nodes.specs.declared.node.NodeId.{NodeId}
 use Rattle.psa_nodes.specs.Table.{Table, table_of, IsTable, Lacks, IsRight}
-use Rattle.psa_nodes.proofs.Same.{key_eq}
-use Rattle.psa_nodes.proofs.Entries.{lookup-lacks}
-use Rattle.psa_nodes.proofs.Makes.{table-entered}
+use Rattle.psa_nodes.proofs.EqualityLemmas.{key_eq}
+use Rattle.psa_nodes.proofs.EntryLemmas.{lookup-lacks}
+use Rattle.psa_nodes.proofs.MakesNodeLemmas.{table-entered}
 use Rattle.psa_nodes.proofs.table.NodeTable.remember.Goals as goal
 use Rattle.psa_nodes.proofs.table.NodeTable.remember.Goals.{in-Ok, in-Err}
 

@@ -1,8 +1,8 @@
 use Rattle.std.proofs.Common.{◌≡◌, sym, ap, ◌∙◌}
 use Rattle.std.specs.Map.{lookup}
 use Rattle.psa_nodes.specs.Table.{Table}
-use Rattle.psa_nodes.proofs.Same.{key_eq}
-use Rattle.psa_nodes.proofs.Entries.{found-lookup, right-lookup, absent-lookup}
+use Rattle.psa_nodes.proofs.EqualityLemmas.{key_eq}
+use Rattle.psa_nodes.proofs.EntryLemmas.{found-lookup, right-lookup, absent-lookup}
 use Rattle.psa_nodes.proofs.table.NodeTable.remembered.Goals as goal
 
 pub returns-clause-found : goal.returns-clause-found
