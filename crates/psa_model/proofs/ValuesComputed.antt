@@ -1,12 +1,9 @@
 -- The values of small expressions.
-use Rattle.std.proofs.Common.{◌≡◌, ℕ, suc, List, [], ◌∷◌, Some, None, refl, sym, ap, ◌∙◌}
+use Rattle.std.proofs.Common.{◌≡◌, ℕ, suc, [], ◌∷◌, Some, None, refl, sym, ap, ◌∙◌}
 use Rattle.std.specs.Prelude.{Ok, Err, pos, negsuc}
 use Rattle.psa_number.specs.Exponential.{lower_term, lower_sum, upper_term, upper_sum, first_from}
-use Rattle.psa_number.specs.Fraction.{Fraction}
 use Rattle.psa_number.specs.Scaled.{Scaled}
 use Rattle.psa_number.specs.declared.fault.NumberFault.TheVariants as number
-use Rattle.psa_model.specs.declared.expanded.ExpandedEvent.TheVariants.{Basic}
-use Rattle.psa_model.specs.declared.expression.Expression.{Expression}
 use Rattle.psa_model.specs.declared.expression.Expression.TheOpen.{Expression-F}
 use Rattle.psa_model.specs.declared.expression.Expression.TheViews.{out-Expression, out-roll-Expression}
 use Rattle.psa_model.specs.declared.expression.Expression.TheVariants as expression

@@ -1,5 +1,5 @@
 -- Models of one basic event with an expression. This project's own.
-use Rattle.std.specs.Prelude.{ℕ, ℤ, List, [], ◌∷◌, Option, None, Result, codes, pos, negsuc, false, true}
+use Rattle.std.specs.Prelude.{ℕ, ℤ, List, [], ◌∷◌, Option, Result, codes, false, true}
 use Rattle.psa_number.specs.Ends.{Ends}
 use Rattle.psa_number.specs.Scaled.{Scaled}
 use Rattle.psa_model.specs.declared.expression.Expression.{Expression}
@@ -15,9 +15,20 @@ use Rattle.psa_model.specs.Values.{values_of}
 -- the model of a basic event `a` at line 3, of which the expression is given
 abbrev pub one_event_model : Option Expression → Model
 one_event_model value = record {
-  gates = []; basics = record { name = codes "a"; place = record { file = 0; line = 3 }; expression = value } ∷ [];
-  houses = []; parameters = []; fault_trees = []; groups = []; rules = []; event_trees = []; functionals = [];
-  sequences = []; branches = []; initiatings = []; formulas = []; order = valued.Basic (record { 0 = 0 }) ∷ [];
+  gates = [];
+  basics = record { name = codes "a"; place = record { file = 0; line = 3 }; expression = value } ∷ [];
+  houses = [];
+  parameters = [];
+  fault_trees = [];
+  groups = [];
+  rules = [];
+  event_trees = [];
+  functionals = [];
+  sequences = [];
+  branches = [];
+  initiatings = [];
+  formulas = [];
+  order = valued.Basic (record { 0 = 0 }) ∷ [];
 }
 
 -- the interval of its only event at a mission time, or the fault

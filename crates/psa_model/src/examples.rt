@@ -8,6 +8,8 @@ ghost use Rattle.psa_model.specs.declared.limits.TheConstants.{MAX_VALUE_LEVELS}
 ghost use Rattle.psa_model.specs.declared.model.Model.{Model};
 ghost use Rattle.psa_model.specs.declared.targets.Target.TheVariants.{TopEvent};
 ghost use Rattle.psa_model.specs.ConditionExample.{condition_model, collects, sequence_target};
+ghost use Rattle.psa_model.specs.DraftExample.{gate_draft, stray_draft};
+ghost use Rattle.psa_model.specs.Drafts.{IsDraft};
 ghost use Rattle.psa_model.specs.EventTreeExample.{event_tree_model, sets_house};
 ghost use Rattle.psa_model.specs.Expansion.{expanded_of, whole_number};
 ghost use Rattle.psa_model.specs.FaultTexts.{fault_line};
@@ -85,4 +87,10 @@ pub fn faults_of_values()
     ensures missing { (mission : Scaled) → value_at mission None ≡ Err (fault_of_a fault.NoValue) }
     ensures divisor { (mission : Scaled) → value_at mission (Some one_by_zero) ≡ Err (fault_of_a fault.ZeroDivisor) }
     ensures above { (mission : Scaled) → value_at mission (Some (whole_number 2)) ≡ Err (fault_of_a fault.NotProbability) }
+{}
+
+/// A fault tree with a gate over two events is a draft; a gate without its fault tree is none.
+pub fn gates_stand_in_fault_trees()
+    ensures whole { IsDraft gate_draft }
+    ensures stray { IsDraft stray_draft → ⊥ }
 {}

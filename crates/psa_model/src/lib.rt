@@ -12,6 +12,7 @@ mod ids;
 mod laws;
 mod limits;
 mod model;
+mod model_laws;
 mod path_laws;
 mod product;
 mod settings;
@@ -25,8 +26,8 @@ pub use draft::{
     DraftReference, DraftTest, EventKind,
 };
 pub use examples::{
-    condition_in_a_rule, event_tree_with_a_link, faults_of_values, group_of_three_members,
-    lines_of_faults, small_values, third_times_three,
+    condition_in_a_rule, event_tree_with_a_link, faults_of_values, gates_stand_in_fault_trees,
+    group_of_three_members, lines_of_faults, small_values, third_times_three,
 };
 pub use expanded::{Expanded, ExpandedEvent};
 pub use expression::{Expression, ExpressionOperator};
@@ -37,11 +38,14 @@ pub use ids::{
     InitiatingId, ParameterId, Place, RuleId, SequenceId, TreeId,
 };
 pub use laws::{gate_is_its_formula, more_levels_change_nothing};
-pub use limits::{MAX_INSTRUCTIONS, MAX_PATHS, MAX_VALUE_LEVELS};
+pub use limits::{
+    MAX_INSTRUCTIONS, MAX_MEMBERS, MAX_NESTING, MAX_PATHS, MAX_SIZE, MAX_VALUE_LEVELS, MIN_MEMBERS,
+};
 pub use model::{
     BasicEvent, EventTree, Factor, FaultTree, Functional, Gate, Group, GroupModel, House,
     Initiating, MAX_DEPTH, Model, NamedBranch, Parameter, RuleDefinition, Sequence, Valued,
 };
+pub use model_laws::{group_is_a_model, more_levels_change_no_walk};
 pub use path_laws::{
     more_levels_change_no_path, paths_are_short, top_events_alone, walks_without_a_fault_end,
 };

@@ -7,3 +7,15 @@ pub const MAX_PATHS: u32 = 65_536;
 /// Levels enough for the expression of each event: an expression of its own, a group's quantity around
 /// it, and a parameter of the greatest depth.
 pub const MAX_VALUE_LEVELS: u32 = 1_000;
+
+/// The greatest nesting of a definition's body, as of the elements of a file.
+pub const MAX_NESTING: u32 = 64;
+
+/// The least number of members of a common cause group.
+pub const MIN_MEMBERS: usize = 2;
+
+/// The greatest number of members of a common cause group.
+pub const MAX_MEMBERS: usize = 8;
+
+/// The greatest number of definitions, group members and collected formulas of a model together.
+pub const MAX_SIZE: usize = 16_000_000;
