@@ -20,6 +20,3 @@ pub use reading::read_decimal;
 pub use scaling::interval_of;
 pub use taylor::exponential;
 pub use unit::{add_in_unit, clamp_unit, complement, times_in_unit};
-
-#[cfg(test)]
-mod tests;

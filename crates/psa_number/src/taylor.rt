@@ -63,7 +63,7 @@ fn upper_end_from(high: u128) -> u128
 }
 
 /// The Taylor sum at `place` units, each of its 161 terms rounded down.
-pub(crate) fn rounded_down_sum(place: u128) -> u128
+fn rounded_down_sum(place: u128) -> u128
     requires { place ≤ greatest_place }
     ensures exact { result ≡ lower_sum place last_term }
     ensures some { units ≤ result }
@@ -79,7 +79,7 @@ pub(crate) fn rounded_down_sum(place: u128) -> u128
 
 /// The Taylor sum at `place` units, each term rounded up, to the first term that may end it, which is added
 /// once more for all later ones.
-pub(crate) fn rounded_up_sum(place: u128) -> u128
+fn rounded_up_sum(place: u128) -> u128
     requires { place ≤ greatest_place }
     ensures exact { result ≡ closed_sum place }
     ensures some { units ≤ result }

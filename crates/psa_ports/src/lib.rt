@@ -6,8 +6,6 @@ mod memory_folder;
 mod memory_sink;
 mod real;
 mod sink;
-#[cfg(test)]
-mod tests;
 
 pub use folder::Folder;
 pub use memory_folder::MemoryFolder;

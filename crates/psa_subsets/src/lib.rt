@@ -8,6 +8,3 @@ mod truth;
 
 pub use search::{MAX_WIDTH, minimal_cut_sets};
 pub use truth::Truth;
-
-#[cfg(test)]
-mod tests;

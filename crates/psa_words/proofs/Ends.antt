@@ -11,7 +11,7 @@ use Rattle.clap.specs.Kinds.{Kinds}
 use Rattle.clap.specs.Facts.{Entry}
 use Rattle.clap.proofs.WalkLemmas.{find_row, first_value-rows, raw_values-rows}
 use Rattle.clap.specs.declared.parser.matches.Found.{Found}
-use Rattle.psa_words.specs.Reading.{Text, Item, flag, valued, file, read, between}
+use Rattle.psa_words.specs.Reading.{Text, Item, flag, valued, file, items_from, between}
 use Rattle.psa_words.specs.Options.{Setting, name_of, takes_value, options, setting_of_long, bdd, zbdd, prime_implicants, rare_event, mcub, ccf, validate, limit_order, cut_off, mission_time, node_limit, sample}
 use Rattle.psa_words.specs.Given.{given_by, given_of, is_same, is_use_of, item_value, value_in, files_in, has_option, has_repeat}
 use Rattle.psa_words.specs.Found.{given_in, is_command_line, is_given, names_in}
@@ -196,7 +196,7 @@ refused_items items None kinds end e agrees loud = let once : false ≡ not (has
     twice false h = h
 refused_items items (Some rows) kinds end e agrees loud = absurd (loud agrees.0)
 
-find_given : (words : List Text) (found : Found) (reading : Option (List (Item Setting))) → read options between words ≡ reading
+find_given : (words : List Text) (found : Found) (reading : Option (List (Item Setting))) → items_from options between words ≡ reading
     → Agrees (judged built_option built_file [] reading) (fault_of scram words) (end_rows top (at [] None idle false) words)
     → rows_of found ≡ matches_of scram words → fault_of scram words ≡ [] → given_of words ≡ Some (given_in found)
 unfolding given_of
@@ -207,9 +207,9 @@ find_given words found (Some items) is agrees rows quiet =
 
 -- the parser takes the words: they give what it finds
 pub taken_words : (words : List Text) (found : Found) → AllTexts words → rows_of found ≡ matches_of scram words → fault_of scram words ≡ [] → given_of words ≡ Some (given_in found)
-taken_words words found all rows quiet = find_given words found (read options between words) refl (scram_agrees words all) rows quiet
+taken_words words found all rows quiet = find_given words found (items_from options between words) refl (scram_agrees words all) rows quiet
 
-no_given : (words : List Text) (reading : Option (List (Item Setting))) → read options between words ≡ reading
+no_given : (words : List Text) (reading : Option (List (Item Setting))) → items_from options between words ≡ reading
     → Agrees (judged built_option built_file [] reading) (fault_of scram words) (end_rows top (at [] None idle false) words)
     → (fault_of scram words ≡ [] → ⊥) → given_of words ≡ None
 unfolding given_of
@@ -220,4 +220,4 @@ no_given words (Some items) is agrees loud =
 
 -- the parser refuses the words: they give nothing
 pub refused_words : (words : List Text) → AllTexts words → (fault_of scram words ≡ [] → ⊥) → given_of words ≡ None
-refused_words words all loud = no_given words (read options between words) refl (scram_agrees words all) loud
+refused_words words all loud = no_given words (items_from options between words) refl (scram_agrees words all) loud

@@ -10,7 +10,7 @@ use Rattle.clap.specs.Faults.{check_fault, defaults_fault, given_default_fault, 
 use Rattle.clap.specs.Kinds.{Kinds}
 use Rattle.clap.proofs.FaultLemmas.{leaf_fault}
 use Rattle.clap.specs.declared.error.kind.ErrorKind.TheVariants as kind
-use Rattle.psa_words.specs.Reading.{Text, read, between}
+use Rattle.psa_words.specs.Reading.{Text, items_from, between}
 use Rattle.psa_words.specs.Options.{Setting, bdd, zbdd, prime_implicants, rare_event, mcub, ccf, validate, limit_order, cut_off, mission_time, node_limit, sample, every_setting, name_of, options}
 use Rattle.psa_words.specs.Scram.{scram, option_rule, file_rule}
 use Rattle.psa_words.proofs.Turns.{Agrees, Fits, at, end_rows, faults, judged, or_false, or_nothing}
@@ -250,5 +250,5 @@ unfolding scram top end_rows
 scram_rows words = refl
 
 pub scram_agrees : (words : List Text) → AllTexts words
-    → Agrees (judged built_option built_file [] (read options between words)) (fault_of scram words) (end_rows top (at [] None idle false) words)
+    → Agrees (judged built_option built_file [] (items_from options between words)) (fault_of scram words) (end_rows top (at [] None idle false) words)
 scram_agrees words all = rw (scram_faults words) (words_agree options top built_option built_file fits words all)

@@ -10,7 +10,7 @@ use Rattle.clap.specs.Faults.{option_fault, walk_fault}
 use Rattle.clap.specs.Kinds.{Kinds, or_else}
 use Rattle.clap.specs.declared.error.kind.ErrorKind.{ErrorKind}
 use Rattle.clap.specs.declared.error.kind.ErrorKind.TheVariants as kind
-use Rattle.psa_words.specs.Reading.{read_option, read_if_known, read_value, read_between, Text, Table, Item, flag, valued, file, Look, dashes, long, short, plain, look_of, read, between, before_value, after_dashes, value_behind}
+use Rattle.psa_words.specs.Reading.{items_from_option, items_if_known, items_from_value, items_from_look, Text, Table, Item, flag, valued, file, Look, dashes, long, short, plain, look_of, items_from, between, before_value, after_dashes, value_behind}
 use Rattle.psa_words.proofs.Looks.{IsLook, looks, two_hyphens}
 use Rattle.psa_words.proofs.Firsts.{IsFirst, first_char, after_hyphen}
 use Rattle.psa_words.proofs.Turns.{Agrees, Fits, Means, Pending, Turn, agrees_next, at, no_sub, turn_from, or_else_assoc, end_rows, faults, goes, holding, item_fault, item_rows, judged, judged_item, settling, stops, taken, taken_next, turn_dashes, turn_file, turn_flag, turn_valued, turn_waits, word_stops, long_means, long_unknown, flag_with_value, short_means, short_unknown}
@@ -63,12 +63,12 @@ valued_pending t s rule f fits rows o word r takes =
 -- after `--`
 after : {O : Type 0} (t : Table O) (s : Shape) (rule : O → Rule) (f : Rule) → Fits t s rule f
     → (words : List Text) (rows : List Row) (pending : Pending) (waiting : Waiting)
-    → Agrees (after_pending rule f s rows pending (read t after_dashes words)) (faults s (at rows pending waiting true) words) (end_rows s (at rows pending waiting true) words)
-unfolding read taken
+    → Agrees (after_pending rule f s rows pending (items_from t after_dashes words)) (faults s (at rows pending waiting true) words) (end_rows s (at rows pending waiting true) words)
+unfolding items_from taken
 after t s rule f fits [] rows pending waiting = end_agrees s rows pending waiting true
 after t s rule f fits (word ∷ words) rows pending waiting =
     let now : List Row = settled_rows s.rules pending rows in
-    let rest = read t after_dashes words in
+    let rest = items_from t after_dashes words in
     let next : Walk = at now (Some (f.id, word ∷ [])) positional true in
     goes s (at rows pending waiting true) next word words (settling s rows pending) (after_pending rule f s rows pending (option_map (λ items. file word ∷ items) rest))
     (turn_file t s rule f fits rows pending waiting true word refl refl)
@@ -93,11 +93,11 @@ lost t s rule f fits (word ∷ words) rows pending waiting x xs h e =
 
 abbrev Between : {O : Type 0} → Table O → Shape → (O → Rule) → Rule → List Text → Type 0
 Between t s rule f words = (rows : List Row) (pending : Pending) (waiting : Waiting) → ((word : Text) (h : Held) → plain_word s.rules waiting word h ≡ (h, value))
-    → Agrees (after_pending rule f s rows pending (read t between words)) (faults s (at rows pending waiting false) words) (end_rows s (at rows pending waiting false) words)
+    → Agrees (after_pending rule f s rows pending (items_from t between words)) (faults s (at rows pending waiting false) words) (end_rows s (at rows pending waiting false) words)
 
 abbrev Awaits : {O : Type 0} → Table O → Shape → (O → Rule) → Rule → List Text → Type 0
 Awaits {O} t s rule f words = (o : O) → t.takes_value o ≡ true → (rows : List Row)
-    → Agrees (judged rule f rows (read t (before_value o) words)) (faults s (at rows (Some ((rule o).id, [])) (waits (rule o).id) false) words)
+    → Agrees (judged rule f rows (items_from t (before_value o) words)) (faults s (at rows (Some ((rule o).id, [])) (waits (rule o).id) false) words)
     (end_rows s (at rows (Some ((rule o).id, [])) (waits (rule o).id) false) words)
 
 -- an option, with the value in its word
@@ -105,30 +105,30 @@ option_agrees : {O : Type 0} (t : Table O) (s : Shape) (rule : O → Rule) (f : 
     → (words : List Text) → Between t s rule f words → Awaits t s rule f words
     → (rows : List Row) (pending : Pending) (waiting : Waiting) (word : Text) (o : O) (v : Option Text) → t.takes_value o ≡ true
     → Means s rows pending waiting word (rule o) v
-    → Agrees (after_pending rule f s rows pending (read_option t o v (λ p. read t p words))) (faults s (at rows pending waiting false) (word ∷ words)) (end_rows s (at rows pending waiting false) (word ∷ words))
+    → Agrees (after_pending rule f s rows pending (items_from_option t o v (λ p. items_from t p words))) (faults s (at rows pending waiting false) (word ∷ words)) (end_rows s (at rows pending waiting false) (word ∷ words))
 option_agrees t s rule f fits words go wait rows pending waiting word o (Some text) takes means =
     let now : List Row = settled_rows s.rules pending rows in
     let next : Walk = at (used (rule o) (text ∷ []) now) None idle false in
-    let m : Option (List Row) = after_pending rule f s rows pending (option_map (λ items. valued o text ∷ items) (read t between words)) in
+    let m : Option (List Row) = after_pending rule f s rows pending (option_map (λ items. valued o text ∷ items) (items_from t between words)) in
     let a : Agrees m (faults s (at rows pending waiting false) (word ∷ words)) (end_rows s (at rows pending waiting false) (word ∷ words)) =
     goes s (at rows pending waiting false) next word words _ m (turn_valued t s rule f fits rows pending waiting word o text takes means)
-    (item_agrees rule f s rows pending (valued o text) (read t between words) (faults s next words) (end_rows s next words)
+    (item_agrees rule f s rows pending (valued o text) (items_from t between words) (faults s next words) (end_rows s next words)
     (go (used (rule o) (text ∷ []) now) None idle (λ w h. refl))) in
     rw takes a
 option_agrees t s rule f fits words go wait rows pending waiting word o None takes means =
     let now : List Row = settled_rows s.rules pending rows in
     let next : Walk = at now (Some ((rule o).id, [])) (waits (rule o).id) false in
-    let m : Option (List Row) = after_pending rule f s rows pending (read t (before_value o) words) in
+    let m : Option (List Row) = after_pending rule f s rows pending (items_from t (before_value o) words) in
     let a : Agrees m (faults s (at rows pending waiting false) (word ∷ words)) (end_rows s (at rows pending waiting false) (word ∷ words)) =
     goes s (at rows pending waiting false) next word words _ m (turn_waits t s rule f fits rows pending waiting word o means)
-    (agrees_next (settling s rows pending) (judged rule f now (read t (before_value o) words)) (faults s next words) (end_rows s next words) (wait o takes now)) in
+    (agrees_next (settling s rows pending) (judged rule f now (items_from t (before_value o) words)) (faults s next words) (end_rows s next words) (wait o takes now)) in
     rw takes a
 
 flag_agrees : {O : Type 0} (t : Table O) (s : Shape) (rule : O → Rule) (f : Rule) → Fits t s rule f
     → (words : List Text) → Between t s rule f words
     → (rows : List Row) (pending : Pending) (waiting : Waiting) (word name : Text) (o : O) (v : Option Text) → t.takes_value o ≡ false
     → bytes_eq word two_hyphens ≡ false → long_of word ≡ Some (name, v) → t.long_name name ≡ Some o
-    → Agrees (after_pending rule f s rows pending (read_option t o v (λ p. read t p words))) (faults s (at rows pending waiting false) (word ∷ words)) (end_rows s (at rows pending waiting false) (word ∷ words))
+    → Agrees (after_pending rule f s rows pending (items_from_option t o v (λ p. items_from t p words))) (faults s (at rows pending waiting false) (word ∷ words)) (end_rows s (at rows pending waiting false) (word ∷ words))
 flag_agrees t s rule f fits words go rows pending waiting word name o (Some text) takes is_word is_long known =
     let a = refused_agrees (settling s rows pending) (faults s (at rows pending waiting false) (word ∷ words)) (end_rows s (at rows pending waiting false) (word ∷ words))
     (word_stops s rows pending waiting word words kind.TooManyValues [] (flag_with_value t s rule f fits rows pending waiting word name text o takes is_word is_long known)) in
@@ -136,10 +136,10 @@ flag_agrees t s rule f fits words go rows pending waiting word name o (Some text
 flag_agrees t s rule f fits words go rows pending waiting word name o None takes is_word is_long known =
     let now : List Row = settled_rows s.rules pending rows in
     let next : Walk = at (used (rule o) [] now) None idle false in
-    let m : Option (List Row) = after_pending rule f s rows pending (option_map (λ items. flag o ∷ items) (read t between words)) in
+    let m : Option (List Row) = after_pending rule f s rows pending (option_map (λ items. flag o ∷ items) (items_from t between words)) in
     let a : Agrees m (faults s (at rows pending waiting false) (word ∷ words)) (end_rows s (at rows pending waiting false) (word ∷ words)) =
     goes s (at rows pending waiting false) next word words _ m (turn_flag t s rule f fits rows pending waiting word name o takes is_word is_long known)
-    (item_agrees rule f s rows pending (flag o) (read t between words) (faults s next words) (end_rows s next words)
+    (item_agrees rule f s rows pending (flag o) (items_from t between words) (faults s next words) (end_rows s next words)
     (go (used (rule o) [] now) None idle (λ w h. refl))) in
     rw takes a
 
@@ -148,7 +148,7 @@ long_agrees : {O : Type 0} (t : Table O) (s : Shape) (rule : O → Rule) (f : Ru
     → (words : List Text) → Between t s rule f words → Awaits t s rule f words
     → (rows : List Row) (pending : Pending) (waiting : Waiting) (word name : Text) (v : Option Text)
     → bytes_eq word two_hyphens ≡ false → long_of word ≡ Some (name, v) → (known : Option O) → t.long_name name ≡ known
-    → Agrees (after_pending rule f s rows pending (read_if_known t known v (λ p. read t p words))) (faults s (at rows pending waiting false) (word ∷ words)) (end_rows s (at rows pending waiting false) (word ∷ words))
+    → Agrees (after_pending rule f s rows pending (items_if_known t known v (λ p. items_from t p words))) (faults s (at rows pending waiting false) (word ∷ words)) (end_rows s (at rows pending waiting false) (word ∷ words))
 long_agrees t s rule f fits words go wait rows pending waiting word name v is_word is_long None known =
     refused_agrees (settling s rows pending) (faults s (at rows pending waiting false) (word ∷ words)) (end_rows s (at rows pending waiting false) (word ∷ words))
     (word_stops s rows pending waiting word words kind.UnknownArgument [] (long_unknown t s rule f fits rows pending waiting word name v is_word is_long known))
@@ -163,7 +163,7 @@ short_agrees : {O : Type 0} (t : Table O) (s : Shape) (rule : O → Rule) (f : R
     → (rows : List Row) (pending : Pending) (waiting : Waiting) (word : Text) (b : ℕ) (rest : Text)
     → bytes_eq word two_hyphens ≡ false → long_of word ≡ None → short_of word ≡ Some (b ∷ rest) → (x : ℕ) → IsFirst b rest x
     → (known : Option O) → t.short_name b ≡ known
-    → Agrees (after_pending rule f s rows pending (read_if_known t known (value_behind rest) (λ p. read t p words))) (faults s (at rows pending waiting false) (word ∷ words)) (end_rows s (at rows pending waiting false) (word ∷ words))
+    → Agrees (after_pending rule f s rows pending (items_if_known t known (value_behind rest) (λ p. items_from t p words))) (faults s (at rows pending waiting false) (word ∷ words)) (end_rows s (at rows pending waiting false) (word ∷ words))
 short_agrees t s rule f fits words go wait rows pending waiting word b rest is_word is_long is_short x first None known =
     refused_agrees (settling s rows pending) (faults s (at rows pending waiting false) (word ∷ words)) (end_rows s (at rows pending waiting false) (word ∷ words))
     (word_stops s rows pending waiting word words kind.UnknownArgument [] (short_unknown t s rule f fits rows pending waiting word b rest is_word is_long is_short x first known))
@@ -180,9 +180,9 @@ between_word : {O : Type 0} (t : Table O) (s : Shape) (rule : O → Rule) (f : R
     → (words : List Text) → Between t s rule f words → Awaits t s rule f words
     → (rows : List Row) (pending : Pending) (waiting : Waiting) → ((word : Text) (h : Held) → plain_word s.rules waiting word h ≡ (h, value))
     → (word : Text) → IsUtf8 word → (look : Look) → IsLook word look
-    → Agrees (after_pending rule f s rows pending (read_between t look word (λ p. read t p words))) (faults s (at rows pending waiting false) (word ∷ words)) (end_rows s (at rows pending waiting false) (word ∷ words))
+    → Agrees (after_pending rule f s rows pending (items_from_look t look word (λ p. items_from t p words))) (faults s (at rows pending waiting false) (word ∷ words)) (end_rows s (at rows pending waiting false) (word ∷ words))
 between_word t s rule f fits words go wait rows pending waiting quiet word u dashes is =
-    goes s (at rows pending waiting false) (at rows pending waiting true) word words [] (after_pending rule f s rows pending (read t after_dashes words))
+    goes s (at rows pending waiting false) (at rows pending waiting true) word words [] (after_pending rule f s rows pending (items_from t after_dashes words))
     (turn_dashes s rows pending waiting word is) (after t s rule f fits words rows pending waiting)
 between_word t s rule f fits words go wait rows pending waiting quiet word u (long name v) is =
     long_agrees t s rule f fits words go wait rows pending waiting word name v is.0 is.1 (t.long_name name) refl
@@ -191,7 +191,7 @@ between_word t s rule f fits words go wait rows pending waiting quiet word u (sh
     short_agrees t s rule f fits words go wait rows pending waiting word b rest is.0 is.1 is.2 first.0 first.1 (t.short_name b) refl
 between_word t s rule f fits words go wait rows pending waiting quiet word u plain is =
     let now : List Row = settled_rows s.rules pending rows in
-    let rest = read t between words in
+    let rest = items_from t between words in
     let next : Walk = at now (Some (f.id, word ∷ [])) positional false in
     goes s (at rows pending waiting false) next word words (settling s rows pending) (after_pending rule f s rows pending (option_map (λ items. file word ∷ items) rest))
     (turn_file t s rule f fits rows pending waiting false word
@@ -247,13 +247,13 @@ turn_value t s rule f fits rows o word takes is =
 value_word : {O : Type 0} (t : Table O) (s : Shape) (rule : O → Rule) (f : Rule) → Fits t s rule f
     → (words : List Text) → Between t s rule f words
     → (o : O) → t.takes_value o ≡ true → (rows : List Row) → (word : Text) → IsUtf8 word → (look : Look) → IsLook word look
-    → Agrees (judged rule f rows (read_value o look word (λ p. read t p words))) (faults s (at rows (Some ((rule o).id, [])) (waits (rule o).id) false) (word ∷ words))
+    → Agrees (judged rule f rows (items_from_value o look word (λ p. items_from t p words))) (faults s (at rows (Some ((rule o).id, [])) (waits (rule o).id) false) (word ∷ words))
     (end_rows s (at rows (Some ((rule o).id, [])) (waits (rule o).id) false) (word ∷ words))
 value_word t s rule f fits words go o takes rows word u plain is =
     let next : Walk = at rows (Some ((rule o).id, word ∷ [])) idle false in
-    goes s (at rows (Some ((rule o).id, [])) (waits (rule o).id) false) next word words [] (judged rule f rows (option_map (λ items. valued o word ∷ items) (read t between words)))
+    goes s (at rows (Some ((rule o).id, [])) (waits (rule o).id) false) next word words [] (judged rule f rows (option_map (λ items. valued o word ∷ items) (items_from t between words)))
     (turn_value t s rule f fits rows o word takes is)
-    (same_agrees _ _ (faults s next words) (end_rows s next words) (valued_pending t s rule f fits rows o word (read t between words) takes)
+    (same_agrees _ _ (faults s next words) (end_rows s next words) (valued_pending t s rule f fits rows o word (items_from t between words) takes)
     (go rows (Some ((rule o).id, word ∷ [])) idle (λ w h. refl)))
 value_word t s rule f fits words go o takes rows word u dashes is =
     let settled : settling s rows (Some ((rule o).id, [])) ≡ kind.InvalidValue ∷ [] = rw (fits.by_id o) (fits.no_value o takes rows) in
@@ -269,7 +269,7 @@ value_word t s rule f fits words go o takes rows word u (short b rest) is =
     short_lost t s rule f fits words rows (Some ((rule o).id, [])) (waits (rule o).id) word b rest kind.InvalidValue [] settled is.0 is.1 is.2 first.0 first.1 (t.short_name b) refl
 
 value_end : {O : Type 0} (t : Table O) (s : Shape) (rule : O → Rule) (f : Rule) → Fits t s rule f → Awaits t s rule f []
-unfolding read faults walk_fault
+unfolding items_from faults walk_fault
 value_end t s rule f fits o takes rows e =
     let settled : settling s rows (Some ((rule o).id, [])) ≡ kind.InvalidValue ∷ [] = rw (fits.by_id o) (fits.no_value o takes rows) in
     let none : settling s rows (Some ((rule o).id, [])) ≡ [] = e in absurd (cc)
@@ -281,7 +281,7 @@ AllTexts (word ∷ words) = IsUtf8 word × AllTexts words
 
 both : {O : Type 0} (t : Table O) (s : Shape) (rule : O → Rule) (f : Rule) → Fits t s rule f
     → (words : List Text) → AllTexts words → Between t s rule f words × Awaits t s rule f words
-unfolding read taken
+unfolding items_from taken
 both t s rule f fits [] all = (λ rows pending waiting quiet. end_agrees s rows pending waiting false, value_end t s rule f fits)
 both t s rule f fits (word ∷ words) all =
     let rest = both t s rule f fits words all.1 in (
@@ -292,5 +292,5 @@ both t s rule f fits (word ∷ words) all =
 -- the reading refuses exactly where the parser finds a fault; else the parser's rows are those of the items
 pub words_agree : {O : Type 0} (t : Table O) (s : Shape) (rule : O → Rule) (f : Rule) → Fits t s rule f
     → (words : List Text) → AllTexts words
-    → Agrees (judged rule f [] (read t between words)) (faults s (at [] None idle false) words) (end_rows s (at [] None idle false) words)
+    → Agrees (judged rule f [] (items_from t between words)) (faults s (at [] None idle false) words) (end_rows s (at [] None idle false) words)
 words_agree t s rule f fits words all = (both t s rule f fits words all).0 [] None idle (λ w h. refl)

@@ -1,5 +1,5 @@
 -- What the words of a command line give, by option, and the settings that they ask for. This project's own.
-use Rattle.std.specs.Prelude.{ℕ, ◌==◌, ◌&&◌, ◌||◌, ◌^◌, Bool, false, not, List, [], ◌∷◌, Option, Some, None, length, nat_le, if◌then◌else◌, option_map, option_and_then, pos}
+use Rattle.std.specs.Prelude.{ℕ, ◌==◌, ◌&&◌, ◌||◌, Bool, false, not, List, [], ◌∷◌, Option, Some, None, length, nat_le, if◌then◌else◌, option_map, option_and_then, pos}
 use Rattle.std.specs.List.{find, list_all, list_any}
 use Rattle.std.specs.Option.{option_map_or}
 use Rattle.std.specs.Result.{result_ok}
@@ -13,7 +13,8 @@ use Rattle.psa_model.specs.declared.settings.Mode.TheVariants.{CutSets, Primes}
 use Rattle.psa_model.specs.declared.settings.Input.{Input}
 use Rattle.psa_model.specs.declared.settings.Input.TheVariants.{Files, Sample}
 use Rattle.psa_model.specs.declared.settings.Settings.{Settings}
-use Rattle.psa_words.specs.Reading.{Text, Item, flag, valued, file, read, between}
+use Rattle.psa_words.specs.declared.limits.TheConstants.{DEFAULT_LIMIT_ORDER, DEFAULT_MISSION_TIME, MAX_DIGITS, MAX_FILES, MAX_LIMIT_ORDER, MAX_NODE_LIMIT, MAX_SAMPLE, MIN_SAMPLE}
+use Rattle.psa_words.specs.Reading.{Text, Item, flag, valued, file, items_from, between}
 use Rattle.psa_words.specs.Options.{Setting, name_of, options, bdd, zbdd, prime_implicants, rare_event, mcub, ccf, validate, limit_order, cut_off, mission_time, node_limit, sample}
 
 -- ---- the items, by option
@@ -35,7 +36,8 @@ has_option setting items = list_any (is_use_of setting) items
 -- an option is given twice
 abbrev pub has_repeat : List (Item Setting) → Bool
 has_repeat [] = false
-has_repeat (item ∷ items) = option_map_or (λ setting. has_option setting items) (item_setting item) false || has_repeat items
+has_repeat (item ∷ items) =
+    option_map_or (λ setting. has_option setting items) (item_setting item) false || has_repeat items
 
 abbrev pub item_value : Item Setting → Option Text
 item_value (valued setting text) = Some text
@@ -84,13 +86,16 @@ given_by items = record {
 
 -- what the words give, or None: they are not read from the left, or an option is given twice
 unfoldable pub given_of : List Text → Option Given
-given_of words = option_and_then (λ items. if has_repeat items then None else Some (given_by items)) (read options between words)
+given_of words =
+    option_and_then (λ items. if has_repeat items then None else Some (given_by items))
+    (items_from options between words)
 
 -- ---- values
 
--- a whole number is one to 13 ASCII digits
+-- a whole number is ASCII digits, at least one
 abbrev pub is_whole_number : Text → Bool
-is_whole_number text = nat_le 1 (length text) && nat_le (length text) 13 && list_all is_ascii_digit text
+is_whole_number text =
+    nat_le 1 (length text) && nat_le (length text) MAX_DIGITS && list_all is_ascii_digit text
 
 abbrev pub whole_between : ℕ → ℕ → Text → Option ℕ
 whole_between least most text =
@@ -101,7 +106,9 @@ abbrev pub is_not_below_zero : Scaled → Bool
 is_not_below_zero decimal = not decimal.negative || decimal.digits == 0
 
 abbrev pub decimal_that : (Scaled → Bool) → Text → Option Scaled
-decimal_that test text = option_and_then (λ decimal. if test decimal then Some decimal else None) (result_ok (decimal_of text))
+decimal_that test text =
+    option_and_then (λ decimal. if test decimal then Some decimal else None)
+    (result_ok (decimal_of text))
 
 abbrev pub is_fraction : Scaled → Bool
 is_fraction decimal = is_not_below_zero decimal && is_within 1 decimal.digits decimal.exponent
@@ -118,16 +125,20 @@ optional_value value (Some text) = option_map Some (value text)
 -- ---- settings
 
 abbrev pub input_of : Option Text → List Text → Option Input
-input_of None names = if nat_le 1 (length names) && nat_le (length names) 16 then Some (Files names) else None
-input_of (Some text) [] = option_map Sample (whole_between 2 1000 text)
+input_of None names =
+    if nat_le 1 (length names) && nat_le (length names) MAX_FILES then Some (Files names) else None
+input_of (Some text) [] = option_map Sample (whole_between MIN_SAMPLE MAX_SAMPLE text)
 input_of (Some text) (name ∷ names) = None
 
-abbrev pub excludes : Given → Bool
-excludes given = (given.has_bdd && given.has_zbdd) || (given.has_prime_implicants && given.has_zbdd) || (given.has_rare_event && given.has_mcub)
+abbrev pub has_conflict : Given → Bool
+has_conflict given =
+    (given.has_bdd && given.has_zbdd)
+    || (given.has_prime_implicants && given.has_zbdd)
+    || (given.has_rare_event && given.has_mcub)
 
--- the mission time is 8760 where it is not given
+-- the mission time where it is not given
 abbrev pub default_mission : Scaled
-default_mission = record { negative = false; digits = 8760; exponent = pos 0 }
+default_mission = record { negative = false; digits = DEFAULT_MISSION_TIME; exponent = pos 0 }
 
 abbrev pub settings_with : Given → ℕ → Option Scaled → Scaled → Option ℕ → Input → Settings
 settings_with given limit cut mission nodes input = record {
@@ -150,15 +161,15 @@ x >>= f = option_and_then f x
 
 abbrev pub values_of : Given → Option Settings
 values_of given =
-    value_or 20 (whole_between 1 32) given.limit_order_text >>= (λ limit.
+    value_or DEFAULT_LIMIT_ORDER (whole_between 1 MAX_LIMIT_ORDER) given.limit_order_text >>= (λ limit.
     optional_value (decimal_that is_fraction) given.cut_off_text >>= (λ cut.
     value_or default_mission (decimal_that is_not_below_zero) given.mission_time_text >>= (λ mission.
-    optional_value (whole_between 1 (10 ^ 12)) given.node_limit_text >>= (λ nodes.
+    optional_value (whole_between 1 MAX_NODE_LIMIT) given.node_limit_text >>= (λ nodes.
     input_of given.sample_text given.file_names >>= (λ input.
     Some (settings_with given limit cut mission nodes input))))))
 
 unfoldable pub settings_from : Given → Option Settings
-settings_from given = if excludes given then None else values_of given
+settings_from given = if has_conflict given then None else values_of given
 
 -- the settings that the words of a command line ask for; None where the words are refused
 abbrev pub settings_of : List Text → Option Settings

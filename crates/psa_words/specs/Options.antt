@@ -1,5 +1,5 @@
 -- The options of the program. The names are SCRAM's, except --node-limit and --sample, which are this project's own.
-use Rattle.std.specs.Prelude.{ℕ, ◌==◌, Bool, true, false, List, [], ◌∷◌, Option, Some, None, if◌then◌else◌, codes}
+use Rattle.std.specs.Prelude.{ℕ, ◌==◌, Bool, true, false, List, [], ◌∷◌, Option, Some, None, if◌then◌else◌, codes, drop}
 use Rattle.std.specs.List.{find}
 use Rattle.std.specs.Str.{bytes_eq}
 use Rattle.psa_words.specs.Reading.{Table, Text}
@@ -23,20 +23,24 @@ every_setting =
     bdd ∷ zbdd ∷ prime_implicants ∷ rare_event ∷ mcub ∷ ccf ∷ validate
     ∷ limit_order ∷ cut_off ∷ mission_time ∷ node_limit ∷ sample ∷ []
 
--- the name behind `--`
+-- how each option is written
+abbrev pub spelling_of : Setting → Text
+spelling_of bdd = codes "--bdd"
+spelling_of zbdd = codes "--zbdd"
+spelling_of prime_implicants = codes "--prime-implicants"
+spelling_of rare_event = codes "--rare-event"
+spelling_of mcub = codes "--mcub"
+spelling_of ccf = codes "--ccf"
+spelling_of validate = codes "--validate"
+spelling_of limit_order = codes "--limit-order"
+spelling_of cut_off = codes "--cut-off"
+spelling_of mission_time = codes "--mission-time"
+spelling_of node_limit = codes "--node-limit"
+spelling_of sample = codes "--sample"
+
+-- the name behind the two hyphens
 abbrev pub name_of : Setting → Text
-name_of bdd = codes "bdd"
-name_of zbdd = codes "zbdd"
-name_of prime_implicants = codes "prime-implicants"
-name_of rare_event = codes "rare-event"
-name_of mcub = codes "mcub"
-name_of ccf = codes "ccf"
-name_of validate = codes "validate"
-name_of limit_order = codes "limit-order"
-name_of cut_off = codes "cut-off"
-name_of mission_time = codes "mission-time"
-name_of node_limit = codes "node-limit"
-name_of sample = codes "sample"
+name_of setting = drop 2 (spelling_of setting)
 
 abbrev pub takes_value : Setting → Bool
 takes_value bdd = false
@@ -52,9 +56,13 @@ takes_value mission_time = true
 takes_value node_limit = true
 takes_value sample = true
 
--- `-l` (108) is --limit-order
+-- `l` in ASCII
+abbrev pub letter_l : ℕ
+letter_l = 108
+
+-- `-l` is --limit-order
 abbrev pub setting_of_short : ℕ → Option Setting
-setting_of_short byte = if byte == 108 then Some limit_order else None
+setting_of_short byte = if byte == letter_l then Some limit_order else None
 
 abbrev pub setting_of_long : Text → Option Setting
 setting_of_long name = find (λ setting. bytes_eq (name_of setting) name) every_setting

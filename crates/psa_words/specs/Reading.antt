@@ -18,18 +18,27 @@ pub data Look : Type 0 where
   -- any other word, as `-` and the empty word
   plain : Look
 
-abbrev pub is_hyphen : ℕ → Bool
-is_hyphen byte = byte == 45
+-- `-` and `=` in ASCII
+abbrev pub hyphen : ℕ
+hyphen = 45
 
-abbrev pub is_equals : ℕ → Bool
-is_equals byte = byte == 61
+abbrev pub equals_sign : ℕ
+equals_sign = 61
+
+abbrev pub is_hyphen : ℕ → Bool
+is_hyphen byte = byte == hyphen
+
+abbrev pub is_equals_sign : ℕ → Bool
+is_equals_sign byte = byte == equals_sign
 
 abbrev pub value_after_equals : Text → Option Text
-value_after_equals text = if list_any is_equals text then Some (after_first is_equals text) else None
+value_after_equals text =
+    if list_any is_equals_sign text then Some (after_first is_equals_sign text) else None
 
 abbrev pub long_look : Text → Look
 long_look [] = dashes
-long_look (byte ∷ bytes) = long (before_first is_equals (byte ∷ bytes)) (value_after_equals (byte ∷ bytes))
+long_look (byte ∷ bytes) =
+    long (before_first is_equals_sign (byte ∷ bytes)) (value_after_equals (byte ∷ bytes))
 
 abbrev pub look_of : Text → Look
 look_of [] = plain
@@ -60,44 +69,53 @@ pub data Place (O : Type 0) : Type 0 where
 abbrev pub Reading : Type 0 → Type 0
 Reading O = Option (List (Item O))
 
-abbrev pub and_then_items : {O : Type 0} → Item O → Reading O → Reading O
-and_then_items item rest = option_map (λ items. item ∷ items) rest
+abbrev pub with_item_before : {O : Type 0} → Item O → Reading O → Reading O
+with_item_before item rest = option_map (λ items. item ∷ items) rest
 
 -- the value that stands in the word of a short option: directly behind it, or behind `=`
 abbrev pub value_behind : Text → Option Text
 value_behind [] = None
-value_behind (byte ∷ bytes) = if is_equals byte then Some bytes else Some (byte ∷ bytes)
+value_behind (byte ∷ bytes) = if is_equals_sign byte then Some bytes else Some (byte ∷ bytes)
 
 -- an option, with the value in its own word; `next` is the reading of the words behind it from a place
-abbrev pub read_option : {O : Type 0} → Table O → O → Option Text → (Place O → Reading O) → Reading O
-read_option table option (Some text) next = if table.takes_value option then and_then_items (valued option text) (next between) else None
-read_option table option None next =
-    if table.takes_value option then next (before_value option) else and_then_items (flag option) (next between)
+abbrev pub items_from_option : {O : Type 0}
+    → Table O → O → Option Text → (Place O → Reading O) → Reading O
+items_from_option table option (Some text) next =
+    if table.takes_value option then with_item_before (valued option text) (next between) else None
+items_from_option table option None next =
+    if table.takes_value option then next (before_value option)
+    else with_item_before (flag option) (next between)
 
-abbrev pub read_if_known : {O : Type 0} → Table O → Option O → Option Text → (Place O → Reading O) → Reading O
-read_if_known table None text next = None
-read_if_known table (Some option) text next = read_option table option text next
+abbrev pub items_if_known : {O : Type 0}
+    → Table O → Option O → Option Text → (Place O → Reading O) → Reading O
+items_if_known table None text next = None
+items_if_known table (Some option) text next = items_from_option table option text next
 
-abbrev pub read_between : {O : Type 0} → Table O → Look → Text → (Place O → Reading O) → Reading O
-read_between table dashes word next = next after_dashes
-read_between table (long name text) word next = read_if_known table (table.long_name name) text next
-read_between table (short byte rest) word next = read_if_known table (table.short_name byte) (value_behind rest) next
-read_between table plain word next = and_then_items (file word) (next between)
+abbrev pub items_from_look : {O : Type 0}
+    → Table O → Look → Text → (Place O → Reading O) → Reading O
+items_from_look table dashes word next = next after_dashes
+items_from_look table (long name text) word next =
+    items_if_known table (table.long_name name) text next
+items_from_look table (short byte rest) word next =
+    items_if_known table (table.short_name byte) (value_behind rest) next
+items_from_look table plain word next = with_item_before (file word) (next between)
 
 -- a word that begins with `-` and is longer is no value
-abbrev pub read_value : {O : Type 0} → O → Look → Text → (Place O → Reading O) → Reading O
-read_value option plain word next = and_then_items (valued option word) (next between)
-read_value option _ word next = None
+abbrev pub items_from_value : {O : Type 0} → O → Look → Text → (Place O → Reading O) → Reading O
+items_from_value option plain word next = with_item_before (valued option word) (next between)
+items_from_value option _ word next = None
 
-abbrev pub read_word : {O : Type 0} → Table O → Place O → Text → (Place O → Reading O) → Reading O
-read_word table between word next = read_between table (look_of word) word next
-read_word table (before_value option) word next = read_value option (look_of word) word next
-read_word table after_dashes word next = and_then_items (file word) (next after_dashes)
+abbrev pub items_from_word : {O : Type 0}
+    → Table O → Place O → Text → (Place O → Reading O) → Reading O
+items_from_word table between word next = items_from_look table (look_of word) word next
+items_from_word table (before_value option) word next = items_from_value option (look_of word) word next
+items_from_word table after_dashes word next = with_item_before (file word) (next after_dashes)
 
-abbrev pub read_end : {O : Type 0} → Place O → Reading O
-read_end (before_value option) = None
-read_end _ = Some []
+abbrev pub items_at_end : {O : Type 0} → Place O → Reading O
+items_at_end (before_value option) = None
+items_at_end _ = Some []
 
-unfoldable pub read : {O : Type 0} → Table O → Place O → List Text → Reading O
-read table place [] = read_end place
-read table place (word ∷ words) = read_word table place word (λ after. read table after words)
+unfoldable pub items_from : {O : Type 0} → Table O → Place O → List Text → Reading O
+items_from table place [] = items_at_end place
+items_from table place (word ∷ words) =
+    items_from_word table place word (λ after. items_from table after words)

@@ -3,7 +3,7 @@ use Rattle.std.specs.Prelude.{true, [], ◌∷◌, ◌++◌, Some, codes, map, i
 use Rattle.clap.specs.Words.{App, Rule, Text, new_rule}
 use Rattle.clap.specs.Simple.{Shape, new_shape}
 use Rattle.clap.specs.declared.builder.action.ArgAction.TheVariants.{Append, Set, SetTrue}
-use Rattle.psa_words.specs.Options.{Setting, limit_order, name_of, takes_value, every_setting}
+use Rattle.psa_words.specs.Options.{Setting, limit_order, letter_l, name_of, takes_value, every_setting}
 
 -- a flag, an option whose value is kept as text, the order limit, and the files, of which each word is a use of its own
 abbrev pub flag_rule : Text → Rule
@@ -13,7 +13,7 @@ abbrev pub valued_rule : Text → Rule
 valued_rule name = record (new_rule name) { long = Some name; action = Some Set }
 
 abbrev pub limit_rule : Rule
-limit_rule = record (valued_rule (codes "limit-order")) { short = Some 108 }
+limit_rule = record (valued_rule (name_of limit_order)) { short = Some letter_l }
 
 abbrev pub file_rule : Rule
 file_rule = record (new_rule (codes "file")) { action = Some Append }

@@ -1,4 +1,4 @@
-ghost use Rattle.std.specs.Prelude.{◌≡◌, ◌≢◌, IfOk, List, [], codes, map, false};
+ghost use Rattle.std.specs.Prelude.{◌≡◌, ◌≢◌, IfOk, IsErrOf, List, [], codes, map, false};
 ghost use Rattle.std.specs.String.{string_bytes};
 ghost use Rattle.clap.specs.Words.{app_of, fault_of, found_of, matches_of, rows_of, rule_of};
 ghost use Rattle.psa_words.specs.Scram.{flag_rule, valued_rule, limit_rule, file_rule, blank_shape, scram};
@@ -76,9 +76,12 @@ fn command<'a>(alloc: Global) -> Result<Command<'a>, AllocError>
 /// What the parser finds in the words. `BadWords` where it refuses them.
 #[tactic(auto, using(crate::proofs::Scrams::simple_free, crate::proofs::Scrams::simple))]
 pub fn parse<'a>(alloc: Global, words: &'a [String]) -> Result<ArgMatches<'a>, WordsError>
-    ensures matches { IfOk result (λ m. rows_of (found_of m) ≡ matches_of scram (map string_bytes words.entry.now)) }
-    ensures passes { IfOk result (λ m. fault_of scram (map string_bytes words.entry.now) ≡ []) }
-    ensures refused { result ≡ Err WordsError.BadWords → fault_of scram (map string_bytes words.entry.now) ≢ [] }
+    ensures matches { IfOk result (λ m.
+        rows_of (found_of m) ≡ matches_of scram (map string_bytes words.entry.now)) }
+    ensures passes { IfOk result (λ m.
+        fault_of scram (map string_bytes words.entry.now) ≡ []) }
+    ensures refused { IsErrOf result WordsError.BadWords
+        → fault_of scram (map string_bytes words.entry.now) ≢ [] }
 {
     let command = command(alloc)?;
     match command.try_get_matches_from(words) {

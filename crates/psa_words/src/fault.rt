@@ -1,6 +1,7 @@
 ghost use Rattle.std.specs.Prelude.{◌≡◌};
-ghost use Rattle.psa_words.specs.declared.fault.WordsError.TheVariants.{Memory};
+ghost use Rattle.psa_words.specs.declared.fault.WordsError.TheVariants.{BadWords, Memory};
 
+use psa_number::NumberFault;
 use std::alloc::AllocError;
 use thiserror::Error;
 
@@ -13,6 +14,15 @@ pub enum WordsError {
     /// Memory ran out.
     #[error("out of memory")]
     Memory,
+}
+
+/// A number that is refused makes the words refused.
+impl From<NumberFault> for WordsError {
+    ghost from_gives = { λ _ e. e ≡ BadWords };
+
+    fn from(_fault: NumberFault) -> WordsError {
+        WordsError::BadWords
+    }
 }
 
 impl From<AllocError> for WordsError {

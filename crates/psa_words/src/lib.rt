@@ -9,10 +9,15 @@ ghost use Rattle.psa_words.specs.Given.{settings_of};
 
 mod command;
 mod fault;
+mod limits;
 mod settings;
 mod values;
 
 pub use fault::WordsError;
+pub use limits::{
+    DEFAULT_LIMIT_ORDER, DEFAULT_MISSION_TIME, MAX_DIGITS, MAX_FILES, MAX_LIMIT_ORDER,
+    MAX_NODE_LIMIT, MAX_SAMPLE, MIN_SAMPLE,
+};
 use psa_model::Settings;
 use std::alloc::Global;
 
@@ -20,13 +25,10 @@ use std::alloc::Global;
 ///
 /// `BadWords` exactly where the words are refused: an unknown option, one given twice, a flag with a value, a missing
 /// value or one that is not the option's, options that exclude each other, a sample beside a file, neither, or more
-/// than 16 files.
+/// than `MAX_FILES` files.
 pub fn read_words(alloc: Global, words: &Vec<String>) -> Result<Settings, WordsError>
     ensures { Answers (settings_of (map string_bytes words.now.items)) result }
 {
     let matches = command::parse(alloc, words.as_slice())?;
     settings::settings(alloc, &matches)
 }
-
-#[cfg(test)]
-mod tests;

@@ -4,9 +4,10 @@ ghost use Rattle.psa_model.specs.declared.settings.Mode.TheVariants.{CutSets, Pr
 ghost use Rattle.clap.specs.Words.{found_of, matched_of, raw_values};
 ghost use Rattle.psa_words.specs.Answer.{Answers};
 ghost use Rattle.psa_words.specs.Found.{given_in, all_names, is_given as is_given_in};
-ghost use Rattle.psa_words.specs.Given.{excludes as excludes_of, input_of, settings_from};
+ghost use Rattle.psa_words.specs.Given.{has_conflict as conflict_of, input_of, settings_from};
 
 use crate::WordsError;
+use crate::limits::{MAX_FILES, MAX_SAMPLE, MIN_SAMPLE};
 use crate::values::{cut_off, limit_order, mission_time, node_limit, whole_between};
 use clap::ArgMatches;
 use clap::parser::ValueSource;
@@ -14,15 +15,12 @@ use psa_model::{Algorithm, Input, Mode, Settings};
 use psa_text::{Items, OutOfMemory, Text};
 use std::alloc::Global;
 
-/// The most files.
-const MOST_FILES: usize = 16;
-
 /// The settings that the matches of the words ask for. `BadWords` exactly where they exclude each other, or a value is
 /// not its option's.
 pub fn settings(alloc: Global, matches: &ArgMatches) -> Result<Settings, WordsError>
     ensures { Answers (settings_from (given_in (found_of matches.now))) result }
 {
-    if excludes(matches) {
+    if has_conflict(matches) {
         return Err(WordsError::BadWords);
     }
     let limit_order = limit_order(matches.get_str("limit-order"))?;
@@ -58,7 +56,9 @@ fn algorithm(matches: &ArgMatches) -> Algorithm
 
 /// Which products are listed: minimal cut sets, where prime implicants are not asked for.
 fn mode(matches: &ArgMatches) -> Mode
-    ensures { result ≡ (if is_given_in (found_of matches.now) (codes "prime-implicants") then Primes else CutSets) }
+    ensures { result
+        ≡ (if is_given_in (found_of matches.now) (codes "prime-implicants") then Primes
+        else CutSets) }
 {
     if is_given(matches, "prime-implicants") {
         Mode::Primes
@@ -76,8 +76,8 @@ fn is_given(matches: &ArgMatches, name: &str) -> bool
 
 /// Whether two options are given that exclude each other.
 #[tactic(auto, unfolding(crate::specs::Found::given_in))]
-fn excludes(matches: &ArgMatches) -> bool
-    ensures { result ≡ excludes_of (given_in (found_of matches.now)) }
+fn has_conflict(matches: &ArgMatches) -> bool
+    ensures { result ≡ conflict_of (given_in (found_of matches.now)) }
 {
     let zbdd = is_given(matches, "zbdd");
     is_given(matches, "bdd") && zbdd
@@ -85,9 +85,12 @@ fn excludes(matches: &ArgMatches) -> bool
         || is_given(matches, "rare-event") && is_given(matches, "mcub")
 }
 
-/// Where the model is read from: the sample, or one to 16 files.
+/// Where the model is read from: the sample, or files.
 fn input(alloc: Global, sample: Option<&str>, names: Option<&[&str]>) -> Result<Input, WordsError>
-    ensures { Answers (input_of (option_map (λ s. s.now) sample.entry) (all_names (option_map (λ ns. map (λ s. s.now) ns.now) names.entry))) result }
+    ensures { Answers
+        (input_of (option_map (λ s. s.now) sample.entry)
+        (all_names (option_map (λ ns. map (λ s. s.now) ns.now) names.entry)))
+        result }
 {
     match sample {
         None => files_input(alloc, names),
@@ -98,7 +101,8 @@ fn input(alloc: Global, sample: Option<&str>, names: Option<&[&str]>) -> Result<
 
 /// Whether there is no name.
 fn has_no_name(names: Option<&[&str]>) -> bool
-    ensures { result ≡ (length (all_names (option_map (λ ns. map (λ s. s.now) ns.now) names.entry)) == 0) }
+    ensures { result
+        ≡ (length (all_names (option_map (λ ns. map (λ s. s.now) ns.now) names.entry)) == 0) }
 {
     match names {
         Some(names) => names.is_empty(),
@@ -106,26 +110,26 @@ fn has_no_name(names: Option<&[&str]>) -> bool
     }
 }
 
-/// The files of these names, one to 16.
+/// The files of these names, at least one.
 fn files_input(alloc: Global, names: Option<&[&str]>) -> Result<Input, WordsError>
-    ensures { Answers (input_of None (all_names (option_map (λ ns. map (λ s. s.now) ns.now) names.entry))) result }
+    ensures { Answers
+        (input_of None (all_names (option_map (λ ns. map (λ s. s.now) ns.now) names.entry)))
+        result }
 {
     match names {
-        Some(names) if 1 <= names.len() && names.len() <= MOST_FILES => {
+        Some(names) if 1 <= names.len() && names.len() <= MAX_FILES => {
             Ok(Input::Files(copied(alloc, names)?))
         }
         _ => Err(WordsError::BadWords),
     }
 }
 
-/// The sample model of the size that the text spells, 2 to 1,000.
+/// The sample model of the size that the text spells.
 fn sample_input(text: &str) -> Result<Input, WordsError>
     ensures { Answers (input_of (Some text.now) []) result }
 {
-    match whole_between(2, 1000, text) {
-        Some(size) => Ok(Input::Sample(size as u32)),
-        None => Err(WordsError::BadWords),
-    }
+    let size = whole_between(MIN_SAMPLE, MAX_SAMPLE, text).ok_or(WordsError::BadWords)?;
+    Ok(Input::Sample(size as u32))
 }
 
 /// The names as texts of their own.

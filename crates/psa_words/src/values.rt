@@ -7,78 +7,79 @@ ghost use Rattle.psa_words.specs.Answer.{Answers};
 ghost use Rattle.psa_words.specs.Given.{decimal_that, default_mission, is_fraction as is_fraction_of, is_not_below_zero, is_whole_number, optional_value, value_or, whole_between as whole_of};
 
 use crate::WordsError;
+use crate::limits::{
+    DEFAULT_LIMIT_ORDER, DEFAULT_MISSION_TIME, MAX_DIGITS, MAX_LIMIT_ORDER, MAX_NODE_LIMIT,
+};
 use psa_number::{Decimal, read_decimal};
 
-/// The most digits of a whole number.
-const MOST_DIGITS: usize = 13;
-
-/// The order limit where none is given.
-const DEFAULT_LIMIT_ORDER: u8 = 20;
-
-/// The mission time where none is given.
-const DEFAULT_MISSION: u32 = 8760;
-
-/// The greatest limit of nodes.
-const MOST_NODES: u64 = 1_000_000_000_000;
-
-/// The greatest order limit: 1 to 32, or 20 where it is not given.
+/// The order limit that the text spells, at least 1, or the default where it is not given.
 pub fn limit_order(text: Option<&str>) -> Result<u8, WordsError>
-    ensures { Answers (value_or 20 (whole_of 1 32) (option_map (λ s. s.now) text.entry)) result }
+    ensures { Answers
+        (value_or DEFAULT_LIMIT_ORDER (whole_of 1 MAX_LIMIT_ORDER)
+        (option_map (λ s. s.now) text.entry))
+        result }
 {
     let Some(text) = text else {
         return Ok(DEFAULT_LIMIT_ORDER);
     };
-    match whole_between(1, 32, text) {
-        Some(limit) => Ok(limit as u8),
-        None => Err(WordsError::BadWords),
-    }
+    let limit = whole_between(1, MAX_LIMIT_ORDER, text).ok_or(WordsError::BadWords)?;
+    Ok(limit as u8)
 }
 
 /// The cutoff, a decimal from 0 to 1, if it is given.
 pub fn cut_off(text: Option<&str>) -> Result<Option<Decimal>, WordsError>
-    ensures { Answers (optional_value (decimal_that is_fraction_of) (option_map (λ s. s.now) text.entry)) result }
+    ensures { Answers
+        (optional_value (decimal_that is_fraction_of) (option_map (λ s. s.now) text.entry))
+        result }
 {
     let Some(text) = text else {
         return Ok(None);
     };
-    match read_decimal(text.as_bytes()) {
-        Ok(value) if is_fraction(value) => Ok(Some(value)),
-        _ => Err(WordsError::BadWords),
+    let value = read_decimal(text.as_bytes())?;
+    if is_fraction(value) {
+        Ok(Some(value))
+    } else {
+        Err(WordsError::BadWords)
     }
 }
 
-/// The mission time, a decimal of at least 0, or 8760 where it is not given.
+/// The mission time, a decimal of at least 0, or the default where it is not given.
 pub fn mission_time(text: Option<&str>) -> Result<Decimal, WordsError>
-    ensures { Answers (value_or default_mission (decimal_that is_not_below_zero) (option_map (λ s. s.now) text.entry)) result }
+    ensures { Answers
+        (value_or default_mission (decimal_that is_not_below_zero)
+        (option_map (λ s. s.now) text.entry))
+        result }
 {
     let Some(text) = text else {
-        return Ok(Decimal::from_whole(DEFAULT_MISSION));
+        return Ok(Decimal::from_whole(DEFAULT_MISSION_TIME));
     };
-    match read_decimal(text.as_bytes()) {
-        Ok(value) if is_at_least_zero(value) => Ok(value),
-        _ => Err(WordsError::BadWords),
+    let value = read_decimal(text.as_bytes())?;
+    if is_at_least_zero(value) {
+        Ok(value)
+    } else {
+        Err(WordsError::BadWords)
     }
 }
 
-/// The limit of nodes, 1 to 10^12, if it is given.
+/// The limit of nodes, at least 1, if it is given.
 pub fn node_limit(text: Option<&str>) -> Result<Option<u64>, WordsError>
-    ensures { Answers (optional_value (whole_of 1 (10 ^ 12)) (option_map (λ s. s.now) text.entry)) result }
+    ensures { Answers
+        (optional_value (whole_of 1 MAX_NODE_LIMIT) (option_map (λ s. s.now) text.entry))
+        result }
 {
     let Some(text) = text else {
         return Ok(None);
     };
-    match whole_between(1, MOST_NODES, text) {
-        Some(limit) => Ok(Some(limit)),
-        None => Err(WordsError::BadWords),
-    }
+    let limit = whole_between(1, MAX_NODE_LIMIT, text).ok_or(WordsError::BadWords)?;
+    Ok(Some(limit))
 }
 
-/// The whole number that the text spells, one to 13 digits, if it is from `least` to `most`.
+/// The whole number that the text spells in digits, one to `MAX_DIGITS`, if it is from `least` to `most`.
 pub fn whole_between(least: u64, most: u64, text: &str) -> Option<u64>
     ensures { result ≡ whole_of least most text.now }
 {
     let digits = text.as_bytes();
-    if digits.is_empty() || digits.len() > MOST_DIGITS || !are_digits(digits) {
+    if digits.is_empty() || digits.len() > MAX_DIGITS || !are_digits(digits) {
         return None;
     }
     let value = value_of_digits(digits);
@@ -99,7 +100,7 @@ fn are_digits(text: &[u8]) -> bool
 /// The number that the digits spell.
 fn value_of_digits(digits: &[u8]) -> u64
     requires only_digits { all_digits digits.now ≡ true }
-    requires few { length digits.now ≤ 13 }
+    requires few { length digits.now ≤ MAX_DIGITS }
     ensures { result ≡ digits_value 10 digits.now }
 {
     let mut value = 0;

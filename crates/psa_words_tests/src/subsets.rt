@@ -1,7 +1,7 @@
 ghost use Rattle.std.specs.Prelude.{◌≡◌, ◌+◌, ◌<◌, length, slice_index_or, false, if◌then◌else◌};
 ghost use Rattle.psa_logic.specs.Sets.{occurs};
 
-use crate::{Truth, minimal_cut_sets};
+use psa_subsets::{Truth, minimal_cut_sets};
 use std::test::Fail;
 
 /// A target with four events, by its value where exactly the events of each set occur: of the

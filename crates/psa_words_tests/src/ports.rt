@@ -1,6 +1,6 @@
 ghost use Rattle.std.specs.Prelude.{◌<◌, ◌≤◌, ◌^◌, IsTrue, length};
 
-use super::*;
+use psa_ports::{Failed, Folder, MemoryFolder, MemorySink, StdFolder, StdSink, put};
 use psa_text::{Items, OutOfMemory, Text};
 use std::alloc::Global;
 use std::io;
@@ -200,5 +200,30 @@ fn std_files(rt: HostRuntime) -> Result<(), Fail> {
             "{name}"
         );
     }
+    Ok(())
+}
+
+// One folder opens one file after another: what is read is the last one's, and nothing is open
+// behind a name that no file has.
+#[test]
+fn std_files_in_turn(rt: HostRuntime) -> Result<(), Fail> {
+    let mut folder = StdFolder::new(&rt);
+    // The name; what opening it answers, what one read then gives, and what is in the buffer of ones.
+    for (name, opened, count, bytes) in [
+        ("/dev/zero", Ok(()), Ok(4), [0u8; 4]),
+        ("/dev/null", Ok(()), Ok(0), [1u8; 4]),
+        ("/dev/zero", Ok(()), Ok(4), [0u8; 4]),
+        ("no/such/file", Err(Failed), Ok(0), [1u8; 4]),
+        ("/dev/zero", Ok(()), Ok(4), [0u8; 4]),
+    ] {
+        let mut buf = [1u8; 4];
+        assert_eq!(rt; folder.open(name), opened, "{name}");
+        assert_eq!(rt; folder.read(&mut buf), count, "{name}");
+        assert_eq!(rt; buf, bytes, "{name}");
+    }
+    assert_eq!(rt;
+        (folder.faults(), folder.opens(), folder.reads()),
+        (1, 5, 5)
+    );
     Ok(())
 }

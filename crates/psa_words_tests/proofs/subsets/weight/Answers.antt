@@ -1,7 +1,7 @@
 use Rattle.std.proofs.Common.{◌≡◌, ◌==◌, ◌||◌, ℕ, List, [], ◌∷◌, refl, sym, ap, ◌∙◌}
 use Rattle.std.specs.List.{list_any}
 use Rattle.psa_logic.specs.Sets.{occurs}
-use Rattle.psa_subsets.proofs.tests.weight.Goals as goal
+use Rattle.psa_words_tests.proofs.subsets.weight.Goals as goal
 
 any-occurs : (xs : List ℕ) (x : ℕ) → list_any (λ y. y == x) xs ≡ occurs xs x
 any-occurs [] x = refl

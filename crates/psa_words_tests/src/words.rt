@@ -1,6 +1,6 @@
-use crate::{WordsError, read_words};
 use psa_model::{Algorithm, Input, Mode, Settings};
 use psa_number::Decimal;
+use psa_words::{WordsError, read_words};
 use std::alloc::Global;
 use std::test::Fail;
 

@@ -1,0 +1,11 @@
+//! Tests of the public calls of psa_number, psa_ports, psa_subsets and psa_words.
+#![tactic(auto)]
+
+#[cfg(test)]
+mod numbers;
+#[cfg(test)]
+mod ports;
+#[cfg(test)]
+mod subsets;
+#[cfg(test)]
+mod words;
