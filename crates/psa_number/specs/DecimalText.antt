@@ -1,12 +1,13 @@
 -- The text of a decimal number, as an attribute of the Open-PSA format spells one: an optional sign, digits with at
 -- most one point, and optionally e or E, a sign and one to four digits. The limits are this project's own.
-use Rattle.std.specs.Prelude.{ℕ, ℤ, pos, negsuc, zero, suc, Bool, List, [], ◌∷◌, ◌++◌, Option, Some, None, Result, Ok, Err, length, is_some, int_lt, nat_lt, nat_le, unsigned_abs, ◌==◌, ◌&&◌, ◌||◌, ◌+◌, ◌*◌, ◌/◌, ◌%◌, ◌^◌, ◌-ℤ◌, if◌then◌else◌}
+use Rattle.std.specs.Prelude.{ℕ, ℤ, pos, negsuc, neg_ℤ, zero, suc, Bool, List, [], ◌∷◌, ◌++◌, Option, Some, None, Result, Ok, Err, length, is_some, int_lt, nat_lt, nat_le, unsigned_abs, ◌==◌, ◌&&◌, ◌||◌, ◌+◌, ◌*◌, ◌/◌, ◌%◌, ◌^◌, ◌-ℤ◌, if◌then◌else◌}
 use Rattle.std.specs.List.{before_first, after_first, position, list_all}
 use Rattle.std.specs.Char.{is_ascii_digit}
 use Rattle.std.specs.Str.Parse.{starts_with_minus, without_leading_sign, digits_value, signed_digits_value}
 use Rattle.std.specs.Fmt.{decimal}
 use Rattle.psa_number.specs.declared.fault.NumberFault.{NumberFault}
 use Rattle.psa_number.specs.declared.fault.NumberFault.TheVariants.{NotDecimal, TooManyDigits, TooLarge}
+use Rattle.psa_number.specs.declared.limits.TheConstants.{MAX_DECIMAL, MAX_DIGITS, MAX_EXPONENT, MAX_EXPONENT_DIGITS}
 use Rattle.psa_number.specs.Units.{units}
 use Rattle.psa_number.specs.Scaled.{Scaled}
 
@@ -25,7 +26,7 @@ are_digits text = list_all is_ascii_digit text
 -- the exponent that the text after the mark spells: an optional sign and one to four digits
 abbrev pub exponent_of : List ℕ → Option ℤ
 exponent_of text =
-    if are_digits (without_leading_sign text) && nat_lt 0 (length (without_leading_sign text)) && nat_le (length (without_leading_sign text)) 4 then Some (signed_digits_value 10 text) else None
+    if are_digits (without_leading_sign text) && nat_lt 0 (length (without_leading_sign text)) && nat_le (length (without_leading_sign text)) MAX_EXPONENT_DIGITS then Some (signed_digits_value 10 text) else None
 
 -- the exponent of an unsigned number: 0 where it has no mark
 abbrev pub exponent_part : List ℕ → Option ℤ
@@ -45,12 +46,13 @@ is_within limit digits (negsuc down) = nat_le digits (limit * 10 ^ suc down)
 
 -- the decimal of these parts, refused where its magnitude is past a million
 abbrev pub scaled_of : Bool → ℕ → ℤ → Result Scaled NumberFault
-scaled_of negative digits exponent = if is_within (10 ^ 6) digits exponent then Ok (record { negative = negative; digits = digits; exponent = exponent }) else Err TooLarge
+scaled_of negative digits exponent = if is_within MAX_DECIMAL digits exponent then Ok (record { negative = negative; digits = digits; exponent = exponent }) else Err TooLarge
 
 -- the number that the digits before and after the point and the exponent spell; too many digits are refused first
 abbrev pub number_of : Bool → List ℕ → List ℕ → ℤ → Result Scaled NumberFault
 number_of negative whole fraction exponent =
-    if nat_lt 36 (length (whole ++ fraction)) || int_lt exponent (negsuc 98) || int_lt (pos 99) exponent then Err TooManyDigits
+    if nat_lt MAX_DIGITS (length (whole ++ fraction))
+    || int_lt exponent (neg_ℤ MAX_EXPONENT) || int_lt MAX_EXPONENT exponent then Err TooManyDigits
     else scaled_of negative (digits_value 10 (whole ++ fraction)) (exponent -ℤ pos (length fraction))
 
 -- what stands before the exponent is digits, at least one

@@ -1,6 +1,7 @@
 -- The Taylor sums of the exponential function, exact and rounded to units of 10^-12. This project's own.
 use Rattle.std.specs.Prelude.{ℕ, ℤ, pos, negsuc, zero, suc, Bool, nat_le, nat_lt, min, ◌&&◌, ◌+◌, ◌-◌, ◌*◌, ◌/◌, if◌then◌else◌}
 use Rattle.std.specs.Int.{div_ceil}
+use Rattle.psa_number.specs.declared.limits.TheConstants.{MAX_PLACE, MAX_TERM}
 use Rattle.psa_number.specs.Units.{units}
 
 -- a number raised to 0 where it is below
@@ -43,7 +44,7 @@ upper_sum q (suc k) = upper_sum q k + upper_term q (suc k)
 
 -- the number of the last term of a lower sum, and the last number that an upper sum may end at
 abbrev pub last_term : ℕ
-last_term = 160
+last_term = MAX_TERM
 
 -- the upper sum may end at its term k: it is at most one unit, and each later exact term is at most half of the
 -- one before, so that all later ones together are at most this one
@@ -65,7 +66,7 @@ closed_sum q = upper_sum q (last_place q) + upper_term q (last_place q)
 
 -- past this number of units, 1 - 1 / S is 1 in all 12 digits
 abbrev pub greatest_place : ℕ
-greatest_place = 28 * units
+greatest_place = MAX_PLACE
 
 -- 1 - 1 / S in units, rounded down, from a sum that is at most S; and rounded up, from one that is at least S
 abbrev pub lower_end : ℕ → ℕ

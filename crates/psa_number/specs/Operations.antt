@@ -3,14 +3,15 @@ use Rattle.std.specs.Prelude.{ℕ, ℤ, pos, negsuc, neg_ℤ, suc, unsigned_abs,
 use Rattle.std.specs.Int.{int_div_euclid, int_min, int_max, div_ceil}
 use Rattle.psa_number.specs.declared.fault.NumberFault.{NumberFault}
 use Rattle.psa_number.specs.declared.fault.NumberFault.TheVariants.{TooLarge, ZeroDivisor, Negative}
+use Rattle.psa_number.specs.declared.limits.TheConstants.{MAX_END}
 use Rattle.psa_number.specs.Units.{units, floor_units, ceil_units, least, greatest}
 use Rattle.psa_number.specs.Ends.{Ends}
 use Rattle.psa_number.specs.Scaled.{Scaled}
 use Rattle.psa_number.specs.Exponential.{raised, lower_end_at, upper_end_at}
 
--- neither end is past 10^18 units in magnitude
+-- neither end is past the limit in magnitude
 abbrev pub is_limited : Ends → Bool
-is_limited e = nat_le (unsigned_abs e.lo) (10 ^ 18) && nat_le (unsigned_abs e.hi) (10 ^ 18)
+is_limited e = nat_le (unsigned_abs e.lo) MAX_END && nat_le (unsigned_abs e.hi) MAX_END
 
 -- the interval with these ends, refused where an end is past the limit
 abbrev pub limited : Ends → Result Ends NumberFault

@@ -1,10 +1,11 @@
 -- Quantities are counted in units of 10^-12. This project's own.
-use Rattle.std.specs.Prelude.{ℕ, ℤ, pos, neg_ℤ, ◌^◌}
+use Rattle.std.specs.Prelude.{ℕ, ℤ, pos, neg_ℤ}
+use Rattle.psa_number.specs.declared.limits.TheConstants.{UNITS}
 use Rattle.std.specs.Int.{int_div_euclid, int_min, int_max}
 
 -- the number 1, in units
 abbrev pub units : ℕ
-units = 10 ^ 12
+units = UNITS
 
 -- the floor of z / units
 abbrev pub floor_units : ℤ → ℤ

@@ -1,14 +1,12 @@
-ghost use Rattle.std.specs.Prelude.{◌≡◌, ◌≢◌, ℕ, false, pos, neg_ℤ, unsigned_abs, IfOk, ◌≤◌, ◌<◌, ◌^◌, ◌*ℤ◌, ◌≤ℤ◌};
+ghost use Rattle.std.specs.Prelude.{◌≡◌, ◌≢◌, ℕ, false, pos, neg_ℤ, unsigned_abs, IfOk, ◌≤◌, ◌<◌, ◌^◌, ◌*ℤ◌, ◌≤ℤ◌, ◌*◌};
 ghost use Rattle.psa_number.specs.Units.{floor_units, ceil_units, least, greatest};
 ghost use Rattle.psa_number.specs.Ends.{Ends};
 ghost use Rattle.psa_number.specs.Operations.{limited as limited_ends, negative_ends, sum_ends, difference_ends, product_ends, has_zero, quotient_ends, quotient_of, quotient_below, quotient_above};
 ghost use Rattle.psa_number.specs.Fraction.{Fraction, Holds, minus, plus, difference, times, quotient};
 
 use crate::fault::NumberFault;
-use crate::interval::{Interval, UNITS};
-
-/// 10^18 units: no end of an interval is past it in magnitude.
-const END_LIMIT: u128 = 1_000_000_000_000_000_000;
+use crate::interval::Interval;
+use crate::limits::{MAX_END, UNITS};
 
 /// The interval of the negated numbers.
 pub fn neg(a: Interval) -> Interval
@@ -21,7 +19,7 @@ pub fn neg(a: Interval) -> Interval
     }
 }
 
-/// The interval of the sums. `TooLarge` exactly where an end is past 10^18 units in magnitude.
+/// The interval of the sums. `TooLarge` exactly where an end is past `MAX_END` units in magnitude.
 pub fn add(a: Interval, b: Interval) -> Result<Interval, NumberFault>
     ensures exact { result ≡ limited_ends (sum_ends a b) }
     ensures bracket { IfOk result (λ r. (x y : Fraction) → Holds a x → Holds b y → Holds r (plus x y)) }
@@ -29,7 +27,7 @@ pub fn add(a: Interval, b: Interval) -> Result<Interval, NumberFault>
     limited(a.lo + b.lo, a.hi + b.hi)
 }
 
-/// The interval of the differences. `TooLarge` exactly where an end is past 10^18 units in magnitude.
+/// The interval of the differences. `TooLarge` exactly where an end is past `MAX_END` units in magnitude.
 pub fn sub(a: Interval, b: Interval) -> Result<Interval, NumberFault>
     ensures exact { result ≡ limited_ends (difference_ends a b) }
     ensures bracket { IfOk result (λ r. (x y : Fraction) → Holds a x → Holds b y → Holds r (difference x y)) }
@@ -37,7 +35,7 @@ pub fn sub(a: Interval, b: Interval) -> Result<Interval, NumberFault>
     limited(a.lo - b.hi, a.hi - b.lo)
 }
 
-/// The interval of the products, rounded outwards to whole units. `TooLarge` exactly where an end is past 10^18
+/// The interval of the products, rounded outwards to whole units. `TooLarge` exactly where an end is past `MAX_END`
 /// units in magnitude.
 pub fn mul(a: Interval, b: Interval) -> Result<Interval, NumberFault>
     ensures exact { result ≡ limited_ends (product_ends a b) }
@@ -53,7 +51,7 @@ pub fn mul(a: Interval, b: Interval) -> Result<Interval, NumberFault>
 }
 
 /// The interval of the quotients, rounded outwards to whole units. `ZeroDivisor` exactly where 0 is in `b`;
-/// else `TooLarge` exactly where an end is past 10^18 units in magnitude.
+/// else `TooLarge` exactly where an end is past `MAX_END` units in magnitude.
 pub fn div(a: Interval, b: Interval) -> Result<Interval, NumberFault>
     ensures exact { result ≡ quotient_of a b }
     ensures bracket { IfOk result (λ r. (x y : Fraction) → Holds a x → Holds b y → Holds r (quotient x y)) }
@@ -95,7 +93,7 @@ fn limited(lo: i128, hi: i128) -> Result<Interval, NumberFault>
     requires { lo ≤ℤ hi }
     ensures { result ≡ limited_ends (record { lo = lo; hi = hi }) }
 {
-    if lo.unsigned_abs() <= END_LIMIT && hi.unsigned_abs() <= END_LIMIT {
+    if lo.unsigned_abs() <= MAX_END && hi.unsigned_abs() <= MAX_END {
         Ok(Interval { lo, hi })
     } else {
         Err(NumberFault::TooLarge)
@@ -104,10 +102,10 @@ fn limited(lo: i128, hi: i128) -> Result<Interval, NumberFault>
 
 /// The product of two ends, in units of 10^-24.
 pub(crate) fn product(x: i128, y: i128) -> i128
-    requires left { unsigned_abs x ≤ 10 ^ 18 }
-    requires right { unsigned_abs y ≤ 10 ^ 18 }
+    requires left { unsigned_abs x ≤ MAX_END }
+    requires right { unsigned_abs y ≤ MAX_END }
     ensures exact { result ≡ x *ℤ y }
-    ensures small { unsigned_abs result ≤ 10 ^ 36 }
+    ensures small { unsigned_abs result ≤ MAX_END * MAX_END }
 {
     x * y
 }
@@ -133,7 +131,7 @@ pub(crate) fn floor_of(z: i128) -> i128
 
 /// The ceiling of `z / UNITS`.
 pub(crate) fn ceil_of(z: i128) -> i128
-    requires { unsigned_abs z ≤ 10 ^ 36 }
+    requires { unsigned_abs z ≤ MAX_END * MAX_END }
     ensures { result ≡ ceil_units z }
 {
     -(-z).div_euclid(i128::from(UNITS))
@@ -141,8 +139,8 @@ pub(crate) fn ceil_of(z: i128) -> i128
 
 /// The floor of the quotient of two ends, in units.
 fn quotient_floor(x: i128, y: i128) -> i128
-    requires dividend { unsigned_abs x ≤ 10 ^ 18 }
-    requires divisor { unsigned_abs y ≤ 10 ^ 18 }
+    requires dividend { unsigned_abs x ≤ MAX_END }
+    requires divisor { unsigned_abs y ≤ MAX_END }
     requires nonzero { y ≢ pos 0 }
     ensures { result ≡ quotient_below x y }
 {
@@ -156,8 +154,8 @@ fn quotient_floor(x: i128, y: i128) -> i128
 
 /// The ceiling of the quotient of two ends, in units.
 fn quotient_ceil(x: i128, y: i128) -> i128
-    requires dividend { unsigned_abs x ≤ 10 ^ 18 }
-    requires divisor { unsigned_abs y ≤ 10 ^ 18 }
+    requires dividend { unsigned_abs x ≤ MAX_END }
+    requires divisor { unsigned_abs y ≤ MAX_END }
     requires nonzero { y ≢ pos 0 }
     ensures { result ≡ quotient_above x y }
 {

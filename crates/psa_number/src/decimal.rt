@@ -1,12 +1,11 @@
-ghost use Rattle.std.specs.Prelude.{◌≡◌, ◌≤◌, ◌^◌, pos, false};
+ghost use Rattle.std.specs.Prelude.{◌≡◌, ◌≤◌, pos, false};
 
+use crate::limits::MAX_DECIMAL;
 use std::marker::Model;
 
-/// 10^36: the digits of a decimal are below it.
-pub const DIGITS_LIMIT: u128 = 1_000_000_000_000_000_000_000_000_000_000_000_000;
-
-/// The exact number `digits * 10^exponent`, below 0 where `negative`. The digits are below 10^36, the
-/// exponent is within -135 to 99, and the magnitude is at most 10^6.
+/// The exact number `digits * 10^exponent`, below 0 where `negative`. The digits are at most
+/// `MAX_DIGITS` in number, the exponent is at most `MAX_EXPONENT` and at least the negative of the
+/// two together, and the magnitude is at most `MAX_DECIMAL`.
 #[derive(Clone, Copy, Debug, PartialEq, Eq)]
 pub struct Decimal {
     pub negative: bool,
@@ -27,9 +26,9 @@ impl Model for Decimal {
 }
 
 impl Decimal {
-    /// The whole number `value`, at most 10^6.
+    /// The whole number `value`.
     pub fn from_whole(value: u32) -> Decimal
-        requires { value ≤ 10 ^ 6 }
+        requires { value ≤ MAX_DECIMAL }
         ensures { result ≡ record { negative = false; digits = value; exponent = pos 0 } }
     {
         Decimal {

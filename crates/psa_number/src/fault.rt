@@ -6,7 +6,7 @@ pub enum NumberFault {
     /// The text is not spelled as a decimal number.
     #[error("not a decimal number")]
     NotDecimal,
-    /// More than 36 digits stand before the exponent, or the exponent is outside -99 to 99.
+    /// Too many digits stand before the exponent, or the exponent is too large in magnitude.
     #[error("too many digits")]
     TooManyDigits,
     /// The magnitude is past what a decimal or an interval can hold.

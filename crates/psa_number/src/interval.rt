@@ -1,10 +1,7 @@
 use std::marker::Model;
 
-/// The number 1 in units: a unit is 10^-12.
-pub const UNITS: u64 = 1_000_000_000_000;
-
 /// The numbers from `lo` to `hi`, both ends included, in units of 10^-12. `lo <= hi`, and both ends are
-/// at most 10^18 units in magnitude.
+/// at most `MAX_END` units in magnitude.
 #[derive(Clone, Copy, Debug, PartialEq, Eq)]
 pub struct Interval {
     pub lo: i128,

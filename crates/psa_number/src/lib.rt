@@ -5,6 +5,7 @@ mod arithmetic;
 mod decimal;
 mod fault;
 mod interval;
+mod limits;
 mod printing;
 mod reading;
 mod scaling;
@@ -12,9 +13,12 @@ mod taylor;
 mod unit;
 
 pub use arithmetic::{add, div, mul, neg, sub};
-pub use decimal::{DIGITS_LIMIT, Decimal};
+pub use decimal::Decimal;
 pub use fault::NumberFault;
-pub use interval::{Interval, UNITS};
+pub use interval::Interval;
+pub use limits::{
+    MAX_DECIMAL, MAX_DIGITS, MAX_END, MAX_EXPONENT, MAX_EXPONENT_DIGITS, MAX_PLACE, MAX_TERM, UNITS,
+};
 pub use printing::print_units;
 pub use reading::read_decimal;
 pub use scaling::interval_of;

@@ -2,16 +2,16 @@ ghost use Rattle.std.specs.Prelude.{◌≡◌, ◌≤◌, ◌<◌, ◌+◌, ◌^
 ghost use Rattle.std.specs.Fmt.{decimal};
 ghost use Rattle.psa_number.specs.DecimalText.{decimal_of, text_of_units, scaled_of_units, sign_of, last_digits};
 
-use crate::interval::UNITS;
+use crate::limits::{MAX_END, UNITS};
 use arrayvec::ArrayString;
 
 /// The digits after the point.
 const PLACES: u32 = 12;
 
 /// The number of units in decimals: `-` where it is negative, the whole part without leading zeros, a point and 12
-/// digits. At most 10^18 units in magnitude.
+/// digits. At most `MAX_END` units in magnitude.
 pub fn print_units(value: i128) -> ArrayString<32>
-    requires { unsigned_abs value ≤ 10 ^ 18 }
+    requires { unsigned_abs value ≤ MAX_END }
     ensures exact { result.bytes ≡ text_of_units value }
 
     // `read_decimal` gives the number back.

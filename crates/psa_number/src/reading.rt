@@ -1,26 +1,19 @@
 ghost use Rattle.std.specs.Prelude.{◌≡◌, ◌≤◌, ◌<◌, ◌+◌, ◌*◌, ◌^◌, ◌≤ℤ◌, pos, negsuc, true, length, drop};
 ghost use Rattle.std.specs.List.{position, position_or_len};
 ghost use Rattle.std.specs.Str.Parse.{starts_with_minus as begins_with_minus, without_leading_sign, digits_value_after};
+ghost use Rattle.psa_number.specs.Scaled.{least_exponent};
 ghost use Rattle.psa_number.specs.DecimalText.{decimal_of, exponent_of, exponent_part as exponent_part_of, number_of, scaled_of, is_within as is_within_limit, are_digits as all_digits, is_mark, is_point};
 
 use crate::decimal::Decimal;
 use crate::fault::NumberFault;
-
-/// The most digits that may stand before the exponent.
-const MOST_DIGITS: usize = 36;
-
-/// The most digits of the exponent.
-const MOST_EXPONENT_DIGITS: usize = 4;
-
-/// The exponent is at most this, and at least the negative of it.
-const GREATEST_EXPONENT: i16 = 99;
+use crate::limits::{MAX_DECIMAL, MAX_DIGITS, MAX_EXPONENT, MAX_EXPONENT_DIGITS};
 
 /// The decimal number that `text` spells: an optional sign, digits with at most one point among or around them, and
 /// optionally `e` or `E`, a sign and one to four digits.
 ///
-/// `NotDecimal` exactly where the text is spelled otherwise. Else `TooManyDigits` exactly where more than 36 digits
-/// stand before the exponent, or the exponent is outside -99 to 99. Else `TooLarge` exactly where the magnitude is
-/// past 10^6.
+/// `NotDecimal` exactly where the text is spelled otherwise. Else `TooManyDigits` exactly where more than
+/// `MAX_DIGITS` digits stand before the exponent, or the exponent is past `MAX_EXPONENT` in magnitude. Else `TooLarge`
+/// exactly where the magnitude is past `MAX_DECIMAL`.
 pub fn read_decimal(text: &[u8]) -> Result<Decimal, NumberFault>
     ensures { result ≡ decimal_of text.now }
 {
@@ -51,10 +44,10 @@ fn number(
     requires fraction_digits { all_digits fraction.now ≡ true }
     ensures { result ≡ number_of negative whole.now fraction.now exponent }
 {
-    if whole.len() > MOST_DIGITS || fraction.len() > MOST_DIGITS - whole.len() {
+    if whole.len() > MAX_DIGITS || fraction.len() > MAX_DIGITS - whole.len() {
         return Err(NumberFault::TooManyDigits);
     }
-    if exponent < -GREATEST_EXPONENT || GREATEST_EXPONENT < exponent {
+    if exponent < -MAX_EXPONENT || MAX_EXPONENT < exponent {
         return Err(NumberFault::TooManyDigits);
     }
     let digits = append_digits(append_digits(0, whole), fraction);
@@ -128,7 +121,7 @@ fn are_digits(text: &[u8]) -> bool
 /// The number that the digits write when they follow those of `start`.
 fn append_digits(start: u128, digits: &[u8]) -> u128
     requires only_digits { all_digits digits.now ≡ true }
-    requires room { (start + 1) * 10 ^ length digits.now ≤ 10 ^ 36 }
+    requires room { (start + 1) * 10 ^ length digits.now ≤ 10 ^ MAX_DIGITS }
     ensures exact { result ≡ digits_value_after 10 start digits.now }
     ensures below { result + 1 ≤ (start + 1) * 10 ^ length digits.now }
 {
@@ -144,7 +137,7 @@ fn read_exponent(text: &[u8]) -> Option<i16>
     ensures { result ≡ exponent_of text.now }
 {
     let digits = without_sign(text);
-    if digits.is_empty() || digits.len() > MOST_EXPONENT_DIGITS || !are_digits(digits) {
+    if digits.is_empty() || digits.len() > MAX_EXPONENT_DIGITS || !are_digits(digits) {
         return None;
     }
     let magnitude = append_digits(0, digits) as i16;
@@ -167,11 +160,11 @@ fn exponent_part(text: &[u8], mark: usize) -> Option<i16>
     }
 }
 
-/// The decimal with these parts, where its magnitude is at most 10^6.
+/// The decimal with these parts, where its magnitude is at most `MAX_DECIMAL`.
 fn scaled(negative: bool, digits: u128, exponent: i16) -> Result<Decimal, NumberFault>
-    requires few { digits < 10 ^ 36 }
-    requires low { negsuc 134 ≤ℤ exponent }
-    requires high { exponent ≤ℤ pos 99 }
+    requires few { digits < 10 ^ MAX_DIGITS }
+    requires low { least_exponent ≤ℤ exponent }
+    requires high { exponent ≤ℤ MAX_EXPONENT }
     ensures { result ≡ scaled_of negative digits exponent }
 {
     if is_within(digits, exponent) {
@@ -185,12 +178,12 @@ fn scaled(negative: bool, digits: u128, exponent: i16) -> Result<Decimal, Number
     }
 }
 
-/// Whether `digits * 10^exponent` is at most 10^6.
+/// Whether `digits * 10^exponent` is at most `MAX_DECIMAL`, which is 10^6.
 fn is_within(digits: u128, exponent: i16) -> bool
-    requires few { digits < 10 ^ 36 }
-    requires low { negsuc 134 ≤ℤ exponent }
-    requires high { exponent ≤ℤ pos 99 }
-    ensures { result ≡ is_within_limit (10 ^ 6) digits exponent }
+    requires few { digits < 10 ^ MAX_DIGITS }
+    requires low { least_exponent ≤ℤ exponent }
+    requires high { exponent ≤ℤ MAX_EXPONENT }
+    ensures { result ≡ is_within_limit MAX_DECIMAL digits exponent }
 {
     if exponent > 6 {
         digits == 0

@@ -5,12 +5,10 @@ ghost use Rattle.psa_number.specs.Fraction.{Holds, fraction_of};
 
 use crate::decimal::Decimal;
 use crate::interval::Interval;
+use crate::limits::{MAX_DIGITS, MAX_END};
 
 /// A unit is this power of ten, inverted.
 const UNIT_EXPONENT: i16 = 12;
-
-/// Every decimal has fewer digits than this power of ten.
-const GREATEST_PLACES: u16 = 36;
 
 /// The least interval of whole units that holds the decimal.
 pub fn interval_of(d: Decimal) -> Interval
@@ -35,8 +33,8 @@ pub fn interval_of(d: Decimal) -> Interval
 
 /// The floor of `digits * 10^scale`.
 fn units_below(digits: u128, scale: i16) -> i128
-    requires few { digits < 10 ^ 36 }
-    requires within { IsWithin (10 ^ 18) digits scale }
+    requires few { digits < 10 ^ MAX_DIGITS }
+    requires within { IsWithin MAX_END digits scale }
     ensures { result ≡ pos (magnitude_below digits scale) }
 {
     if scale < 0 {
@@ -48,8 +46,8 @@ fn units_below(digits: u128, scale: i16) -> i128
 
 /// The ceiling of `digits * 10^scale`.
 fn units_above(digits: u128, scale: i16) -> i128
-    requires few { digits < 10 ^ 36 }
-    requires within { IsWithin (10 ^ 18) digits scale }
+    requires few { digits < 10 ^ MAX_DIGITS }
+    requires within { IsWithin MAX_END digits scale }
     ensures { result ≡ pos (magnitude_above digits scale) }
 {
     if scale < 0 {
@@ -59,22 +57,22 @@ fn units_above(digits: u128, scale: i16) -> i128
     }
 }
 
-/// What to divide by for a scale below 0. Past 10^36 the quotients stay the same.
+/// What to divide by for a scale below 0. Past as many places as a decimal has digits the quotients stay the same.
 fn divisor_of(scale: i16) -> u128
     requires { scale <ℤ pos 0 }
-    ensures value { result ≡ 10 ^ min (unsigned_abs scale) 36 }
+    ensures value { result ≡ 10 ^ min (unsigned_abs scale) MAX_DIGITS }
     ensures some { 0 < result }
 {
-    10u128.pow(u32::from(scale.unsigned_abs().min(GREATEST_PLACES)))
+    10u128.pow(u32::from(scale.unsigned_abs().min(MAX_DIGITS as u16)))
 }
 
 /// `digits * 10^scale` for a scale of 0 or more.
 fn scaled_up(digits: u128, scale: i16) -> u128
     requires up { pos 0 ≤ℤ scale }
-    requires within { IsWithin (10 ^ 18) digits scale }
+    requires within { IsWithin MAX_END digits scale }
     ensures value { result ≡ magnitude_below digits scale }
     ensures same { result ≡ magnitude_above digits scale }
-    ensures small { result ≤ 10 ^ 18 }
+    ensures small { result ≤ MAX_END }
 {
     if digits == 0 {
         return 0;

@@ -5,7 +5,8 @@ ghost use Rattle.psa_number.specs.Operations.{IsInUnit, held_to_unit, unit_ends,
 ghost use Rattle.psa_number.specs.Fraction.{Fraction, Holds, plus, times, held_in_unit, at_most_one, one_minus};
 
 use crate::arithmetic::{ceil_of, floor_of, product};
-use crate::interval::{Interval, UNITS};
+use crate::interval::Interval;
+use crate::limits::{MAX_END, UNITS};
 
 /// The interval with both ends held to 0 and 1. Some of it has to be within them.
 pub fn clamp_unit(a: Interval) -> Interval
@@ -71,8 +72,8 @@ fn held(z: i128) -> i128
 
 /// The sum of two ends, held at 1.
 fn sum_at_most_one(x: i128, y: i128) -> i128
-    requires left { unsigned_abs x ≤ 10 ^ 18 }
-    requires right { unsigned_abs y ≤ 10 ^ 18 }
+    requires left { unsigned_abs x ≤ MAX_END }
+    requires right { unsigned_abs y ≤ MAX_END }
     ensures { result ≡ int_min (pos units) (x +ℤ y) }
 {
     i128::from(UNITS).min(x + y)
