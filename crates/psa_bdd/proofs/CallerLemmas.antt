@@ -1,2 +1,2 @@
 -- What the proof of a caller cites.
-pub use Rattle.psa_bdd.proofs.Apply.{result-stands}
+pub use Rattle.psa_bdd.proofs.ConnectiveLemmas.{result-stands}

@@ -1,6 +1,6 @@
-pub mod Apply
-pub mod Keys
-pub mod Levels
-pub mod Branches
-pub mod Recursion
+pub mod ConnectiveLemmas
+pub mod KeyLemmas
+pub mod LevelLemmas
+pub mod SidesLemmas
+pub mod CombineSteps
 pub mod CallerLemmas

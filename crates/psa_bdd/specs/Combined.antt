@@ -40,8 +40,18 @@ neutral_of Or = FALSE
 abbrev pub key_of : Connective → NodeId → NodeId → MemoKey
 key_of connective left right =
     if nat_le left.0 right.0
-    then record { operation = operation_of connective; left = left; right = right; limit = NO_LIMIT }
-    else record { operation = operation_of connective; left = right; right = left; limit = NO_LIMIT }
+    then record {
+      operation = operation_of connective;
+      left = left;
+      right = right;
+      limit = NO_LIMIT;
+    }
+    else record {
+      operation = operation_of connective;
+      left = right;
+      right = left;
+      limit = NO_LIMIT;
+    }
 
 -- where two operands stand: the least of their levels
 abbrev pub pair_level : List Node → ℕ → ℕ → ℕ
@@ -49,14 +59,18 @@ pair_level ns left right = min (level ns left) (level ns right)
 
 -- A node reads as the connective of cofactors of both truths, by one assignment of the ranks below its
 -- variable.
-pub record IsCofactors (connective : Connective) (f g : (ℕ → Bool) → Bool) (kind : Kind) (var : ℕ) (r : Reading) : Type 0 where
+pub record IsCofactors
+    (connective : Connective) (f g : (ℕ → Bool) → Bool) (kind : Kind) (var : ℕ) (r : Reading)
+    : Type 0 where
   pub of_bdd : kind ≡ Bdd
   pub assignment : ℕ → Bool
-  pub reads : (s : ℕ → Bool) → r.as_truth s ≡ apply connective (cofactor f assignment var s) (cofactor g assignment var s)
+  pub reads : (s : ℕ → Bool)
+      → r.as_truth s ≡ apply connective (cofactor f assignment var s) (cofactor g assignment var s)
 
 -- What combining two diagrams does to the table, with its answer: each new node reads as the connective of
 -- cofactors of both operands, and so does the triple that a full table refused.
-abbrev pub IsCombining : Connective → NodeId → NodeId → Table → Table → Result NodeId NodeError → Type 0
+abbrev pub IsCombining : Connective → NodeId → NodeId → Table → Table → Result NodeId NodeError
+    → Type 0
 IsCombining connective left right before now answer =
     IsCall (IsCofactors connective (truth before.nodes left.0) (truth before.nodes right.0))
     (pair_level before.nodes left.0 right.0) before now answer
@@ -74,10 +88,13 @@ pub record IsSplit (ns : List Node) (var id hi lo : ℕ) : Type 0 where
   pub reads : (s : ℕ → Bool) → truth ns id s ≡ (if s var then truth ns hi s else truth ns lo s)
 
 -- the sides that a result is made of
-pub record IsReady (connective : Connective) (ns : List Node) (left right var hi lo : ℕ) : Type 0 where
+pub record IsReady
+    (connective : Connective) (ns : List Node) (left right var hi lo : ℕ) : Type 0 where
   pub bounded : var < MAX_RANKS
   pub left_stands : stands Bdd var ns left ≡ true
   pub right_stands : stands Bdd var ns right ≡ true
   pub hi_stands : stands Bdd (var + 1) ns hi ≡ true
   pub lo_stands : stands Bdd (var + 1) ns lo ≡ true
-  pub reads : (s : ℕ → Bool) → (if s var then truth ns hi s else truth ns lo s) ≡ apply connective (truth ns left s) (truth ns right s)
+  pub reads : (s : ℕ → Bool)
+      → (if s var then truth ns hi s else truth ns lo s)
+      ≡ apply connective (truth ns left s) (truth ns right s)

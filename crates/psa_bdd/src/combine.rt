@@ -34,10 +34,8 @@ fn finish(
     ensures entered { OnOk result (length table.new.entries ≡ length table.old.entries + 1) }
 {
     let id = table.bdd_node(var, hi, lo)?;
-    match table.remember(connective.key(left, right), id) {
-        Ok(()) => Ok(id),
-        Err(_) => Err(NodeError::Memory),
-    }
+    table.remember(connective.key(left, right), id)?;
+    Ok(id)
 }
 
 /// The connective of two diagrams, by recursion over the least of their variables. Each result is remembered.

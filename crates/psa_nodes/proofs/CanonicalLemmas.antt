@@ -181,6 +181,7 @@ known : (k : Kind) (older : List Node) → AllFit older → AreCanonical k older
 known Bdd older fit IH n fits kind b b0 same = known-truth older fit IH n fits kind b b0 same
 known Zbdd older fit IH n fits kind b b0 same = known-family older fit IH n fits kind b b0 same
 
+-- readings that are the same the other way round
 pub same-back : (k : Kind) (a b : Reading) → IsSameReading k a b → IsSameReading k b a
 same-back Bdd a b h = λ s. sym (h s)
 same-back Zbdd a b h = λ set. sym (h set)

@@ -17,11 +17,13 @@ pub assigned-past : (assignment s : ℕ → Bool) (v y : ℕ) → v ≤ y → as
 assigned-past assignment s v y le = rw (le-ltb y v le) refl
 
 module _ (f hi lo : (ℕ → Bool) → Bool) (x : ℕ) (is : (s : ℕ → Bool) → f s ≡ (if s x then hi s else lo s)) (assignment : ℕ → Bool) (v : ℕ) (lt : x < v) where
+  -- a cofactor of the high side is the cofactor of the decision with the variable put in
   pub high-cofactor : IsBlind x hi → (s : ℕ → Bool) → cofactor hi assignment v s ≡ cofactor f (fixed assignment x true) v s
   high-cofactor blind s =
       high-side f hi lo x is blind (assigned assignment v s)
       ∙ ap f (λ i y. assigned-fixed assignment s x v true lt y i)
 
+  -- and one of the low side, with the variable put out
   pub low-cofactor : IsBlind x lo → (s : ℕ → Bool) → cofactor lo assignment v s ≡ cofactor f (fixed assignment x false) v s
   low-cofactor blind s =
       low-side f hi lo x is blind (assigned assignment v s)

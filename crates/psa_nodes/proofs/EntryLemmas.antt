@@ -33,6 +33,7 @@ module _ {before now : List Node} (g : Grown before now) where
             (subst (λ (x : Reading). Computes key.operation key.limit x (reading before key.right.0) (reading before answer.0)) (sym left) r.computes));
       }
 
+  -- and so do all
   pub all_right-kept : (es : List (MemoKey × NodeId)) → AllRight before es → AllRight now es
   all_right-kept [] r = tt
   all_right-kept (e ∷ es) r = (right-kept e.0 e.1 r.0, all_right-kept es r.1)
@@ -46,6 +47,7 @@ lacks-push : (es : List (MemoKey × NodeId)) (key own : MemoKey) (answer : NodeI
 lacks-push [] key own answer l ne = (ne, tt)
 lacks-push (e ∷ es) key own answer l ne = (l.0, lacks-push es key own answer l.1 ne)
 
+-- the keys still differ with one more that was not there
 pub different-push : (es : List (MemoKey × NodeId)) (key : MemoKey) (answer : NodeId) → AreDifferent es → Lacks es key → AreDifferent (es ++ (key, answer) ∷ [])
 different-push [] key answer d l = (tt, tt)
 different-push (e ∷ es) key answer d l =
@@ -60,6 +62,7 @@ lookup-lacks (e ∷ es) key l =
       | inr p ↦ rw p (lookup-lacks es key l.1)
     ]
 
+-- a key that is not found is lacked
 pub lookup-none : (es : List (MemoKey × NodeId)) (key : MemoKey) → lookup (key_eq key) es ≡ None → Lacks es key
 lookup-none [] key e = tt
 lookup-none (f ∷ fs) key e =
@@ -68,6 +71,7 @@ lookup-none (f ∷ fs) key e =
       | inr p ↦ ((λ same. true≢false (sym (key-own key) ∙ ap (key_eq key) (sym same) ∙ p)), lookup-none fs key (rw p at e))
     ]
 
+-- a key that is found is there with its answer
 pub lookup-some : (es : List (MemoKey × NodeId)) (key : MemoKey) (answer : NodeId) → lookup (key_eq key) es ≡ Some answer → Has es (key, answer)
 lookup-some [] key answer e = cc
 lookup-some (f ∷ fs) key answer e =
@@ -80,6 +84,7 @@ lookup-some (f ∷ fs) key answer e =
       | inr p ↦ inr (lookup-some fs key answer (rw p at e))
     ]
 
+-- an entry that is there is right
 pub right-has : (ns : List Node) (es : List (MemoKey × NodeId)) (key : MemoKey) (answer : NodeId) → AllRight ns es → Has es (key, answer) → IsRight ns key answer
 right-has ns [] key answer r h = absurd h
 right-has ns (e ∷ es) key answer r h =
@@ -93,10 +98,12 @@ pub found-lookup : (es : List (MemoKey × NodeId)) (key : MemoKey) (r : Option N
 found-lookup es key None e = tt
 found-lookup es key (Some answer) e = lookup-some es key answer (sym e)
 
+-- what is found is right
 pub right-lookup : (ns : List Node) (es : List (MemoKey × NodeId)) (key : MemoKey) (r : Option NodeId) → AllRight ns es → r ≡ lookup (key_eq key) es → IfSome r (λ answer. IsRight ns key answer)
 right-lookup ns es key None rs e = tt
 right-lookup ns es key (Some answer) rs e = right-has ns es key answer rs (lookup-some es key answer (sym e))
 
+-- where nothing is found the key is lacked
 pub absent-lookup : (es : List (MemoKey × NodeId)) (key : MemoKey) (r : Option NodeId) → r ≡ lookup (key_eq key) es → IfNone r (Lacks es key)
 absent-lookup es key None e = lookup-none es key (sym e)
 absent-lookup es key (Some answer) e = tt

@@ -12,9 +12,11 @@ use Rattle.psa_nodes.proofs.StandsLemmas.{same_kind-exact}
 pub joined-own : (x : ℕ) (hi lo : List ℕ → Bool) (ys : List ℕ) → joined x hi lo (x ∷ ys) ≡ hi ys
 joined-own x hi lo ys = rw (eq-eqb x x refl) refl
 
+-- a set that begins otherwise is one of the low side
 pub joined-other : (x : ℕ) (hi lo : List ℕ → Bool) (y : ℕ) (ys : List ℕ) → (y ≡ x → ⊥) → joined x hi lo (y ∷ ys) ≡ lo (y ∷ ys)
 joined-other x hi lo y ys ne = rw (ne_eqb y x ne) refl
 
+-- no set of a family that stands at v begins below v
 pub has-below : (ns : List Node) → AllFit ns → (v id : ℕ) → stands Zbdd v ns id ≡ true → (y : ℕ) (ys : List ℕ) → y < v → has ns id (y ∷ ys) ≡ false
 has-below [] fit v id h y ys lt = and_right (id == 1) false refl
 has-below (n ∷ older) fit v id h y ys lt =

@@ -19,12 +19,14 @@ use Rattle.psa_nodes.proofs.FamilyLemmas.{has-below, has-zero}
 use Rattle.psa_nodes.proofs.CanonicalLemmas.{only}
 use Rattle.psa_nodes.proofs.EntryLemmas.{all_right-kept, all_right-append, different-push}
 
+-- equal readings agree as diagrams of each kind
 pub same-path : (k : Kind) (a b : Reading) → a ≡ b → IsSameReading k a b
 same-path Bdd a b e = λ s. ap (λ (r : Reading). r.as_truth s) e
 same-path Zbdd a b e = λ set. ap (λ (r : Reading). r.as_family set) e
 
 -- a triple whose children stand and that is reduced
 module _ (t : Table) (n : Node) (hi : stands n.kind (n.var + 1) t.nodes n.hi.0 ≡ true) (lo : stands n.kind (n.var + 1) t.nodes n.lo.0 ≡ true) (reduced : IsReduced n.kind n.hi.0 n.lo.0) where
+  -- such a triple may be added where it is new
   pub fits : IsNew t.nodes n → Fits t.nodes n
   fits new = record { hi = hi; lo = lo; reduced = reduced; fresh = new }
 
@@ -34,6 +36,7 @@ module _ (t : Table) (n : Node) (hi : stands n.kind (n.var + 1) t.nodes n.hi.0 �
     | inr p ↦ subst (λ (x : Table). Grown t.nodes x.nodes) (sym p.0) (grown-cons n t.nodes)
   ]
 
+  -- the answer with its node
   pub made_ok : (now : Table) (id : NodeId) → IsTable now → node_at now.nodes id.0 ≡ Some n → ((now ≡ t) ⊎ ((now ≡ record t { nodes = n ∷ t.nodes }) × Fits t.nodes n)) → (IsRefused t.nodes t.limit n → ⊥) → MakesNode n t now (Ok id)
   made_ok now id table there added not_refused =
       let there_stands = stands-node now.nodes id.0 n there in
@@ -51,6 +54,7 @@ module _ (t : Table) (n : Node) (hi : stands n.kind (n.var + 1) t.nodes n.hi.0 �
         at_memory = λ e. cc;
       }
 
+  -- the refusal of a full table
   pub made_full : IsRefused t.nodes t.limit n → MakesNode n t (record t { refused = Some n }) (Err Full)
   made_full r = record {
     passed = λ h. absurd (h reduced);
@@ -64,6 +68,7 @@ module _ (t : Table) (n : Node) (hi : stands n.kind (n.var + 1) t.nodes n.hi.0 �
     at_memory = λ e. cc;
   }
 
+  -- the refusal for want of memory
   pub made_memory : (IsRefused t.nodes t.limit n → ⊥) → IsNew t.nodes n → MakesNode n t t (Err Memory)
   made_memory not_refused new = record {
     passed = λ h. absurd (h reduced);
@@ -103,6 +108,7 @@ table-refused t n ok r = record { fit = ok.fit; right = ok.right; different = ok
 module _ (before now : List Node) (entries : List (MemoKey × NodeId)) (limit : Option ℕ) (refused : Option Node) (n : Node)
     (ok : IsTable (table_of before entries limit refused)) (room : limit ≡ Some (length before) → ⊥)
     (hi : stands n.kind (n.var + 1) before n.hi.0 ≡ true) (lo : stands n.kind (n.var + 1) before n.lo.0 ≡ true) (reduced : IsReduced n.kind n.hi.0 n.lo.0) where
+  -- nothing was added, or the new node
   abbrev pub IsAdding : Type 0
   IsAdding = (now ≡ before) ⊎ ((now ≡ n ∷ before) × IsNew before n)
 
@@ -113,10 +119,12 @@ module _ (before now : List Node) (entries : List (MemoKey × NodeId)) (limit : 
         (table-added (table_of before entries limit refused) n ok (fits (table_of before entries limit refused) n hi lo reduced p.1) room)
   ]
 
+  -- the table stays well formed
   pub added_table : (answer : Result NodeId NodeError) → IfOk answer (λ _. IsAdding) → OnErr answer ((now ≡ before) × IsNew before n) → IsTable (table_of now entries limit refused)
   added_table (Ok id) a e = table_by a
   added_table (Err d) a e = table_by (inl e.0)
 
+  -- and the node is made as `MakesNode` says
   pub added_makes : (answer : Result NodeId NodeError) → IfOk answer (λ id. node_at now id.0 ≡ Some n) → IfOk answer (λ _. IsAdding) → OnErr answer ((now ≡ before) × IsNew before n) → IfErr answer (λ d. d ≡ Memory)
       → MakesNode n (table_of before entries limit refused) (table_of now entries limit refused) answer
   added_makes (Ok id) there a e m =
@@ -151,6 +159,7 @@ passed-reads ns fit Zbdd v hi lo sl p = by
       | inr e ↦ rw e.0 refl
     ]
 
+-- a triple that is not reduced is answered by its `lo`
 pub made_passed : (t : Table) → IsTable t → (n : Node) → stands n.kind (n.var + 1) t.nodes n.lo.0 ≡ true → IsPassed n.kind n.hi.0 n.lo.0 → MakesNode n t t (Ok n.lo)
 made_passed t ok n lo p =
     let no = not_reduced n.kind n.hi.0 n.lo.0 p in

@@ -44,6 +44,7 @@ at-newest n older f = record {
       sym (node_reading-kept (grown-cons n older) n (stands-below n.kind (n.var + 1) older n.hi.0 f.hi) (stands-below n.kind (n.var + 1) older n.lo.0 f.lo));
 }
 
+-- what is known of the node at an id of a well-formed table
 pub at : (ns : List Node) → AllFit ns → (id : ℕ) (m : Node) → node_at ns id ≡ Some m → At ns id m
 at [] fit id m e = cc
 at (n ∷ older) fit id m e =

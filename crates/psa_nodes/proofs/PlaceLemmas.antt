@@ -11,9 +11,11 @@ use Rattle.psa_nodes.specs.Readings.{node_at}
 use Rattle.psa_nodes.specs.Nodes.{IsNew}
 use Rattle.psa_nodes.proofs.EqualityLemmas.{node_eq, node-exact, node-own}
 
+-- the first item of a list is the last of its reverse
 pub reverse-cons : (x : Node) (xs : List Node) → reverse (x ∷ xs) ≡ reverse xs ++ x ∷ []
 reverse-cons x xs = reverse-append (x ∷ []) xs
 
+-- and the last item the first
 pub reverse-push : (xs : List Node) (x : Node) → reverse (xs ++ x ∷ []) ≡ x ∷ reverse xs
 reverse-push xs x = reverse-append xs (x ∷ [])
 

@@ -22,6 +22,7 @@ use Rattle.psa_nodes.proofs.BoundedLemmas.{bounded-cons}
 pub key_level-kept : {before now : List Node} → Grown before now → (key : MemoKey) → key.left.0 < length before + 2 → key.right.0 < length before + 2 → key_level now key ≡ key_level before key
 key_level-kept g key left right = ap₂ min (level-kept g key.left.0 left) (level-kept g key.right.0 right)
 
+-- the key of a right entry keeps its level
 pub key_level-right : {before now : List Node} → Grown before now → (key : MemoKey) (answer : NodeId) → IsRight before key answer → key_level now key ≡ key_level before key
 key_level-right {before} g key answer r =
     key_level-kept g key (stands-below (operand_kind key.operation) 0 before key.left.0 r.left_stands) (stands-below (operand_kind key.operation) 0 before key.right.0 r.right_stands)
@@ -163,6 +164,7 @@ module _ {Origin Wide : Kind → ℕ → Reading → Type 0} {low wide : ℕ} (l
   from-wide : (n : Node) (r : Reading) → IsFrom Origin low n r → IsFrom Wide wide n r
   from-wide n r f = record { past = omega (arith, f.past); origin = wider n.kind n.var r f.past f.origin }
 
+  -- steps of a narrower call are steps of a wider one
   pub progress-wide : {before now : Table} → Progress Origin low before now → Progress Wide wide before now
   progress-wide {before} {now} p = record {
     table = p.table;
@@ -173,6 +175,7 @@ module _ {Origin Wide : Kind → ℕ → Reading → Type 0} {low wide : ℕ} (l
     bounded = p.bounded;
   }
 
+  -- and so is the whole call
   pub call-wide : {A : Type 0} {before now : Table} (answer : Result A NodeError) → IsCall Origin low before now answer → IsCall Wide wide before now answer
   call-wide {A} {before} {now} answer c = record {
     progress = progress-wide c.progress;
@@ -190,6 +193,7 @@ module _ {Origin : Kind → ℕ → Reading → Type 0} {low : ℕ} (n : Node) (
             (call-done id (progress-node before n (subst IsTable p good) from small) refl)
       ]
 
+  -- what `bdd_node` and `zbdd_node` do is such a call
   pub call-node : (now : Table) (answer : Result NodeId NodeError) → IsTable now → MakesNode n before now answer → IsCall Origin low before now answer
   call-node now (Ok id) good m = node_ok now id good (elim m.added [ inl p ↦ inl p | inr p ↦ inr p.0 ])
   call-node now (Err Memory) good m =

@@ -15,6 +15,7 @@ same_kind-exact Bdd Zbdd h = absurd (true≢false (sym h))
 same_kind-exact Zbdd Bdd h = absurd (true≢false (sym h))
 same_kind-exact Zbdd Zbdd h = refl
 
+-- a kind is its own
 pub same_kind-own : (k : Kind) → same_kind k k ≡ true
 same_kind-own Bdd = refl
 same_kind-own Zbdd = refl
@@ -56,6 +57,7 @@ pub record StandsAs (k : Kind) (v : ℕ) (ns : List Node) (id : ℕ) : Type 0 wh
   pub of_kind : node.kind ≡ k
   pub from : v ≤ node.var
 
+-- the two cases of an id that stands
 pub stands-cases : (k : Kind) (v : ℕ) (ns : List Node) (id : ℕ) → stands k v ns id ≡ true → (id < 2) ⊎ StandsAs k v ns id
 stands-cases k v [] id h = inl (ltb-true id 2 h)
 stands-cases k v (n ∷ older) id h =
@@ -144,19 +146,23 @@ level-node (n ∷ older) id m e =
       | inr p ↦ rw p.0 (level-node older id m (rw p.0 at e))
     ]
 
+-- the level of a terminal is past all literals
 pub level-terminal : (ns : List Node) (id : ℕ) → id < 2 → level ns id ≡ 2 ^ 33
 level-terminal [] id lt = refl
 level-terminal (n ∷ older) id lt =
     rw (ne_eqb id (length older + 2) (λ e. omega arith)) (level-terminal older id lt)
 
+-- greater variables have greater literals
 pub first_literal-grows : (k : Kind) (v w : ℕ) → v ≤ w → first_literal k v ≤ first_literal k w
 first_literal-grows Bdd v w le = omega arith
 first_literal-grows Zbdd v w le = le
 
+-- the next variable has greater literals
 pub first_literal-step : (k : Kind) (v : ℕ) → first_literal k v < first_literal k (v + 1)
 first_literal-step Bdd v = omega arith
 first_literal-step Zbdd v = omega arith
 
+-- the literals of variables of 32 bits are below the level of a terminal
 pub first_literal-bound : (k : Kind) (v : ℕ) → v < 2 ^ 32 → first_literal k v < 2 ^ 33
 first_literal-bound Bdd v lt = omega arith
 first_literal-bound Zbdd v lt = omega arith

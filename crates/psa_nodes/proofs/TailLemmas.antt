@@ -61,12 +61,15 @@ tails-in Source Inner is k v r t = record {
 -- Calls on the sides by a variable, as steps of a call whose operands stand at `low`: a call on a side, the
 -- exit after it, and the making of the result.
 module _ (Source : List ℕ → Type 0) (var low : ℕ) (le : low ≤ var) {A : Type 0} where
+  -- a call on a side is a step past the variable
   pub side-call : {before now : Table} (Side : List ℕ → Type 0) (start : ℕ) → IsSideOf var Source Side → var + 1 ≤ start → (answer : Result A NodeError) → IsCall (AreTailsOf Side) start before now answer → IsCall (AreTailsOf Source) (var + 1) before now answer
   side-call Side start is past answer call =
       call-wide past (λ k v r from t. tails-of-side var Source Side is k v r (omega (arith, past, from)) t) answer call
 
+  -- an answer after such steps is one of the call
   pub exit-call : {before now : Table} (answer : Result A NodeError) → IsCall (AreTailsOf Source) (var + 1) before now answer → IsCall (AreTailsOf Source) low before now answer
   exit-call answer call = let l : low ≤ var + 1 = omega (arith, le) in call-wide l (λ k v r from t. t) answer call
 
+  -- and so is the making of the result
   pub last-call : {before now : Table} (Inner : List ℕ → Type 0) → ((set : List ℕ) → Inner set → Source set) → (answer : Result A NodeError) → IsCall (AreTailsOf Inner) var before now answer → IsCall (AreTailsOf Source) low before now answer
   last-call Inner is answer call = call-wide le (λ k v r from t. tails-in Source Inner is k v r t) answer call

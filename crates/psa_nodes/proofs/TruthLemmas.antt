@@ -8,6 +8,7 @@ use Rattle.psa_nodes.specs.Readings.{next_id, truth, stands, same_kind}
 use Rattle.psa_nodes.specs.Nodes.{AllFit}
 use Rattle.psa_nodes.proofs.StandsLemmas.{same_kind-exact}
 
+-- equal choices between equal sides
 pub choice-same : (b c x x' y y' : Bool) → b ≡ c → x ≡ x' → y ≡ y' → (if b then x else y) ≡ (if c then x' else y')
 choice-same b c x x' y y' p q r i = if p i then q i else r i
 
@@ -31,9 +32,11 @@ truth-agree (n ∷ older) fit v id h s t same =
 abbrev pub fixed : (ℕ → Bool) → ℕ → Bool → ℕ → Bool
 fixed s x b y = if y == x then b else s y
 
+-- at x the set has what was put
 pub fixed-own : (s : ℕ → Bool) (x : ℕ) (b : Bool) → fixed s x b x ≡ b
 fixed-own s x b = rw (eq-eqb x x refl) refl
 
+-- past x it is s
 pub fixed-past : (s : ℕ → Bool) (x : ℕ) (b : Bool) (y : ℕ) → x + 1 ≤ y → fixed s x b y ≡ s y
 fixed-past s x b y le = rw (ne_eqb y x (λ e. omega arith)) refl
 
@@ -41,16 +44,19 @@ fixed-past s x b y le = rw (ne_eqb y x (λ e. omega arith)) refl
 abbrev pub IsBlind : ℕ → ((ℕ → Bool) → Bool) → Type 0
 IsBlind x f = (s t : ℕ → Bool) → ((y : ℕ) → x + 1 ≤ y → s y ≡ t y) → f s ≡ f t
 
+-- a diagram that stands past x does not depend on the ranks up to x
 pub blind-stands : (ns : List Node) → AllFit ns → (x id : ℕ) → stands Bdd (x + 1) ns id ≡ true → IsBlind x (truth ns id)
 blind-stands ns fit x id h s t same = truth-agree ns fit (x + 1) id h s t same
 
 -- the sides of a decision are its reading with the variable put in or out
 module _ (f hi lo : (ℕ → Bool) → Bool) (x : ℕ) (is : (s : ℕ → Bool) → f s ≡ (if s x then hi s else lo s)) where
+  -- the high side is the decision with the variable put in
   pub high-side : IsBlind x hi → (s : ℕ → Bool) → hi s ≡ f (fixed s x true)
   high-side blind s =
       let open_ : f (fixed s x true) ≡ (if fixed s x true x then hi (fixed s x true) else lo (fixed s x true)) = is (fixed s x true) in
       sym ((rw (fixed-own s x true) at open_) ∙ blind (fixed s x true) s (fixed-past s x true))
 
+  -- the low side is the decision with the variable put out
   pub low-side : IsBlind x lo → (s : ℕ → Bool) → lo s ≡ f (fixed s x false)
   low-side blind s =
       let open_ : f (fixed s x false) ≡ (if fixed s x false x then hi (fixed s x false) else lo (fixed s x false)) = is (fixed s x false) in

@@ -29,7 +29,8 @@ pub record IsRight (ns : List Node) (key : MemoKey) (result : NodeId) : Type 0 w
   pub left_stands : stands (operand_kind key.operation) 0 ns key.left.0 ≡ true
   pub right_stands : stands (operand_kind key.operation) 0 ns key.right.0 ≡ true
   pub result_stands : stands (result_kind key.operation) 0 ns result.0 ≡ true
-  pub computes : Computes key.operation key.limit (reading ns key.left.0) (reading ns key.right.0) (reading ns result.0)
+  pub computes : Computes key.operation key.limit
+      (reading ns key.left.0) (reading ns key.right.0) (reading ns result.0)
 
 abbrev pub AllRight : List Node → List (MemoKey × NodeId) → Type 0
 AllRight ns [] = Unit {0}
@@ -59,16 +60,19 @@ pub record IsTable (t : Table) : Type 0 where
   pub refused : IfSome t.refused (IsRefused t.nodes t.limit)
 
 -- What asking for a node of this kind, variable and children does to a table, and its answer.
-pub record MakesNode (n : Node) (before now : Table) (answer : Result NodeId NodeError) : Type 0 where
+pub record MakesNode
+    (n : Node) (before now : Table) (answer : Result NodeId NodeError) : Type 0 where
   -- a triple that is not reduced is its `lo`, without a node of its own
   pub passed : (IsReduced n.kind n.hi.0 n.lo.0 → ⊥) → answer ≡ Ok n.lo
   -- else the answer is the node of this triple
   pub node : IsReduced n.kind n.hi.0 n.lo.0 → IfOk answer (λ id. node_at now.nodes id.0 ≡ Some n)
   pub stands_at : IfOk answer (λ id. stands n.kind n.var now.nodes id.0 ≡ true)
-  pub reads : IfOk answer (λ id. IsSameReading n.kind (reading now.nodes id.0) (node_reading before.nodes n))
+  pub reads : IfOk answer (λ id.
+      IsSameReading n.kind (reading now.nodes id.0) (node_reading before.nodes n))
   pub only : IfOk answer (λ id. IsOnly n.kind now.nodes id.0)
   -- one node was added, only where it was needed, or nothing changed
-  pub added : IfOk answer (λ _. (now ≡ before) ⊎ ((now ≡ record before { nodes = n ∷ before.nodes }) × Fits before.nodes n))
+  pub added : IfOk answer (λ _. (now ≡ before)
+      ⊎ ((now ≡ record before { nodes = n ∷ before.nodes }) × Fits before.nodes n))
   -- Full exactly where the triple is reduced and new and as many nodes stand as the limit allows
   pub full : (answer ≡ Err Full) ↔ IsRefused before.nodes before.limit n
   -- the refused triple is kept, and nothing else changes

@@ -18,7 +18,8 @@ pub record IsTailOf (Source : List ℕ → Type 0) (var : ℕ) (set : List ℕ) 
   pub tail : set ≡ tail_from var whole
 
 -- a node of a family, of which each member is the tail, at the node's variable, of a set of the source
-pub record AreTailsOf (Source : List ℕ → Type 0) (kind : Kind) (var : ℕ) (r : Reading) : Type 0 where
+pub record AreTailsOf
+    (Source : List ℕ → Type 0) (kind : Kind) (var : ℕ) (r : Reading) : Type 0 where
   pub of_zbdd : kind ≡ Zbdd
   pub tails : (set : List ℕ) → r.as_family set ≡ true → IsTailOf Source var set
 

@@ -1,5 +1,7 @@
-ghost use Rattle.std.specs.Prelude.{◌↔◌, IsTrue};
+ghost use Rattle.std.specs.Prelude.{◌≡◌, ◌↔◌, IsTrue};
 ghost use Rattle.psa_nodes.specs.Readings.{IsTerminal};
+
+use std::alloc::{AllocError, AllocFailed};
 
 /// The number of terminals. Their ids come before those of all nodes.
 pub const TERMINALS: u64 = 2;
@@ -107,4 +109,24 @@ pub enum NodeError {
     /// Memory was wanted.
     #[error("out of memory")]
     Memory,
+}
+
+impl From<AllocError> for NodeError {
+    ghost use Rattle.psa_nodes.specs.declared.node.NodeError.TheVariants.{Memory};
+
+    ghost from_gives = { λ _ e. e ≡ Memory };
+
+    fn from(_error: AllocError) -> NodeError {
+        NodeError::Memory
+    }
+}
+
+impl<T: Drop> From<AllocFailed<T>> for NodeError {
+    ghost use Rattle.psa_nodes.specs.declared.node.NodeError.TheVariants.{Memory};
+
+    ghost from_gives = { λ _ e. e ≡ Memory };
+
+    fn from(_error: AllocFailed<T>) -> NodeError {
+        NodeError::Memory
+    }
 }

@@ -30,7 +30,8 @@ impl Model for NodeTable {
 
     ghost view = { λ t. table_of (reverse t.nodes.keys) t.memo.entries t.limit t.refused };
 
-    ghost invariant = { λ t. IsTable (table_of (reverse t.nodes.keys) t.memo.entries t.limit t.refused) };
+    ghost invariant = { λ t.
+        IsTable (table_of (reverse t.nodes.keys) t.memo.entries t.limit t.refused) };
 }
 
 /// The node's place in the set, if it is there.
@@ -47,17 +48,15 @@ fn place(nodes: &IndexSet<Node>, node: Node) -> Option<NodeId>
 fn add(nodes: &mut IndexSet<Node>, node: Node) -> Result<NodeId, NodeError>
     ensures at { IfOk result (λ id. node_at (reverse nodes.new.keys) id.0 ≡ Some node) }
     ensures added { IfOk result (λ _. (reverse nodes.new.keys ≡ reverse nodes.old.keys)
-        ⊎ ((reverse nodes.new.keys ≡ node ∷ reverse nodes.old.keys) × IsNew (reverse nodes.old.keys) node)) }
-    ensures err { OnErr result ((reverse nodes.new.keys ≡ reverse nodes.old.keys) × IsNew (reverse nodes.old.keys) node) }
+        ⊎ ((reverse nodes.new.keys ≡ node ∷ reverse nodes.old.keys)
+        × IsNew (reverse nodes.old.keys) node)) }
+    ensures err { OnErr result ((reverse nodes.new.keys ≡ reverse nodes.old.keys)
+        × IsNew (reverse nodes.old.keys) node) }
     ensures memory { IfErr result (λ e. e ≡ NodeError.Memory) }
 {
-    match nodes.insert_full(node) {
-        Ok((index, _)) => {
-            let _small = nodes.len();
-            Ok(NodeId(index as u64 + TERMINALS))
-        }
-        Err(_) => Err(NodeError::Memory),
-    }
+    let (index, _) = nodes.insert_full(node)?;
+    let _small = nodes.len();
+    Ok(NodeId(index as u64 + TERMINALS))
 }
 
 impl NodeTable {
@@ -171,7 +170,8 @@ impl NodeTable {
     pub fn bdd_node(&mut self, var: u32, hi: NodeId, lo: NodeId) -> Result<NodeId, NodeError>
         requires hi { stands Kind.Bdd (var + 1) self.old.nodes hi.0 ≡ true }
         requires lo { stands Kind.Bdd (var + 1) self.old.nodes lo.0 ≡ true }
-        ensures made { MakesNode (record { kind = Kind.Bdd; var = var; hi = hi; lo = lo }) self.old self.new result }
+        ensures made { MakesNode (record { kind = Kind.Bdd; var = var; hi = hi; lo = lo })
+            self.old self.new result }
         ensures table { IsTable self.new }
     {
         self.check();
@@ -191,7 +191,8 @@ impl NodeTable {
     pub fn zbdd_node(&mut self, var: u32, hi: NodeId, lo: NodeId) -> Result<NodeId, NodeError>
         requires hi { stands Kind.Zbdd (var + 1) self.old.nodes hi.0 ≡ true }
         requires lo { stands Kind.Zbdd (var + 1) self.old.nodes lo.0 ≡ true }
-        ensures made { MakesNode (record { kind = Kind.Zbdd; var = var; hi = hi; lo = lo }) self.old self.new result }
+        ensures made { MakesNode (record { kind = Kind.Zbdd; var = var; hi = hi; lo = lo })
+            self.old self.new result }
         ensures table { IsTable self.new }
     {
         self.check();
@@ -220,13 +221,12 @@ impl NodeTable {
     pub fn remember(&mut self, key: MemoKey, answer: NodeId) -> Result<(), AllocError>
         requires right { IsRight self.old.nodes key answer }
         requires absent { Lacks self.old.entries key }
-        ensures ok { OnOk result (self.new ≡ record self.old { entries = self.old.entries ++ (key, answer) ∷ [] }) }
+        ensures ok { OnOk result (self.new
+            ≡ record self.old { entries = self.old.entries ++ (key, answer) ∷ [] }) }
         ensures err { OnErr result (self.new ≡ self.old) }
         ensures table { IsTable self.new }
     {
-        match self.memo.insert(key, answer) {
-            Ok(_) => Ok(()),
-            Err(_) => Err(AllocError),
-        }
+        self.memo.insert(key, answer)?;
+        Ok(())
     }
 }

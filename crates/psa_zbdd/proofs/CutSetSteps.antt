@@ -33,6 +33,7 @@ use Rattle.psa_zbdd.proofs.SubsetRemovalLemmas.{past-without}
 abbrev pub CutCalled : {A : Type 0} → ℕ → ℕ → Table → Table → Result A NodeError → Type 0
 CutCalled root most before now answer = IsCall (AreTailsOf (IsCutOfCofactor (truth before.nodes root) most)) (level before.nodes root) before now answer
 
+-- the id is the family of the minimal cut sets within the limit
 abbrev pub IsCuts : List Node → ℕ → ℕ → ℕ → Type 0
 IsCuts ns root limit id = IsResult MinimalOfBdd limit ns root 0 id
 
@@ -51,6 +52,7 @@ module _ (old : Table) (root : NodeId) (limit most : ℕ) (at_most : limit ≤ m
   abbrev Wide : Kind → ℕ → Reading → Type 0
   Wide = AreTailsOf Source
 
+  -- where the root stands
   pub old_level : level old.nodes root.0 ≡ 2 * n.var
   old_level = level-node old.nodes root.0 n there ∙ ap (λ k. first_literal k n.var) kind
 
@@ -59,15 +61,19 @@ module _ (old : Table) (root : NodeId) (limit most : ℕ) (at_most : limit ≤ m
     its : At now.nodes root.0 n
     its = at now.nodes fit root.0 n (node_at-kept g root.0 n there)
 
+    -- the high side stands past the variable
     pub hi_stands : stands Bdd (n.var + 1) now.nodes n.hi.0 ≡ true
     hi_stands = rw kind at its.hi
 
+    -- and so does the low side
     pub lo_stands : stands Bdd (n.var + 1) now.nodes n.lo.0 ≡ true
     lo_stands = rw kind at its.lo
 
+    -- so both may be operands
     pub hi_zero : stands Bdd 0 now.nodes n.hi.0 ≡ true
     hi_zero = stands-weaker Bdd (n.var + 1) 0 now.nodes n.hi.0 (omega arith) hi_stands
 
+    -- the low one too
     pub lo_zero : stands Bdd 0 now.nodes n.lo.0 ≡ true
     lo_zero = stands-weaker Bdd (n.var + 1) 0 now.nodes n.lo.0 (omega arith) lo_stands
 
@@ -83,9 +89,11 @@ module _ (old : Table) (root : NodeId) (limit most : ℕ) (at_most : limit ≤ m
     from_lo : DependsFrom (n.var + 1) (truth now.nodes n.lo.0)
     from_lo = truth-agree now.nodes fit (n.var + 1) n.lo.0 lo_stands
 
+    -- their levels are past the variable
     pub past_hi : 2 * n.var + 2 ≤ level now.nodes n.hi.0
     past_hi = let l : 2 * (n.var + 1) ≤ level now.nodes n.hi.0 = level-stands Bdd (n.var + 1) now.nodes n.hi.0 (omega (arith, bound)) hi_stands in omega (arith, l)
 
+    -- that of the low side too
     pub past_lo : 2 * n.var + 2 ≤ level now.nodes n.lo.0
     past_lo = let l : 2 * (n.var + 1) ≤ level now.nodes n.lo.0 = level-stands Bdd (n.var + 1) now.nodes n.lo.0 (omega (arith, bound)) lo_stands in omega (arith, l)
 
@@ -145,6 +153,7 @@ module _ (old : Table) (root : NodeId) (limit most : ℕ) (at_most : limit ≤ m
           cut-sides n.var (truth now.nodes root.0) (truth now.nodes n.hi.0) (truth now.nodes n.lo.0) reads from from_hi from_lo
           limit (has now.nodes hi) (has now.nodes lo) of_lo.computes of_hi
 
+      -- both sides' results make a ready result
       pub its_ready : IsReady now.nodes (cut_key root limit) (2 * n.var) hi lo
       its_ready = record {
         bounded = omega (arith, bound);
@@ -159,6 +168,7 @@ module _ (old : Table) (root : NodeId) (limit most : ℕ) (at_most : limit ≤ m
         computes = its_cuts;
       }
 
+      -- and the making of it is the last step
       pub last-step : {A : Type 0} (after : Table) (answer : Result A NodeError) → IsCall (AreTailsOf (IsMember (joined (2 * n.var) (has now.nodes hi) (has now.nodes lo)))) (2 * n.var) now after answer → IsCall Wide (level old.nodes root.0) now after answer
       last-step after answer call =
           let le : level old.nodes root.0 ≤ 2 * n.var = let e = old_level in omega (arith, e) in
@@ -195,6 +205,7 @@ module _ (old : Table) (root : NodeId) (limit most : ℕ) (at_most : limit ≤ m
       progress-lacks call.progress (cut_key root limit) lacks (omega (arith, e))
 
   module _ (fit : AllFit old.nodes) where
+    -- an error of the first call is passed on
     pub low-exit : {A : Type 0} (one : Table) (answer : Result A NodeError) → CutCalled n.lo.0 most old one answer → IsCall Wide (level old.nodes root.0) old one answer
     low-exit one answer call = exit one answer (low-step old (grown-own old.nodes) fit one answer call)
 
@@ -205,13 +216,16 @@ module _ (old : Table) (root : NodeId) (limit most : ℕ) (at_most : limit ≤ m
 
       -- nothing on the high side
       module _ (none : (limit ≡ 0) ⊎ (lo.0 ≡ 1)) where
+        -- the low side's cut sets alone make a ready result
         pub low-ready : IsReady one.nodes (cut_key root limit) (2 * n.var) 0 lo.0
         low-ready =
             its_ready one first.progress.nodes first.progress.table.fit 0 lo.0 of_lo (stands-terminal Zbdd (2 * n.var + 1) one.nodes 0 (omega arith)) (none-high one first.progress.nodes first.progress.table.fit lo.0 none)
 
+        -- the first call did not remember the key
         pub low-absent : Lacks old.entries (cut_key root limit) → Lacks one.entries (cut_key root limit)
         low-absent lacks = lacks-still one (Ok lo) first_step lacks
 
+        -- these two steps are the call
         pub low-call : {A : Type 0} (now : Table) (answer : Result A NodeError) → IsCall (AreTailsOf (IsMember (joined (2 * n.var) (has one.nodes 0) (has one.nodes lo.0)))) (2 * n.var) one now answer → IsCall Wide (level old.nodes root.0) old now answer
         low-call now answer last =
             call-then lo answer (low-exit one (Ok lo) first)
@@ -220,6 +234,7 @@ module _ (old : Table) (root : NodeId) (limit most : ℕ) (at_most : limit ≤ m
       two-steps : {A : Type 0} (two : Table) (answer : Result A NodeError) → CutCalled n.hi.0 most one two answer → IsCall Wide (2 * n.var + 1) old two answer
       two-steps two answer call = call-then lo answer first_step (high-step one first.progress.nodes first.progress.table.fit two answer call)
 
+      -- an error of the second call is passed on
       pub high-exit : {A : Type 0} (two : Table) (answer : Result A NodeError) → CutCalled n.hi.0 most one two answer → IsCall Wide (level old.nodes root.0) old two answer
       high-exit two answer call = exit two answer (two-steps two answer call)
 
@@ -233,6 +248,7 @@ module _ (old : Table) (root : NodeId) (limit most : ℕ) (at_most : limit ≤ m
             result-kept second.progress.nodes MinimalOfBdd limit second.progress.table.fit n.lo.0 0 lo.0
             (stands-below Bdd 0 one.nodes n.lo.0 (lo_zero one first.progress.nodes first.progress.table.fit)) (omega arith) of_lo
 
+        -- the operands of the subset removal stand
         pub less_operands : (stands Zbdd 0 two.nodes high.0 ≡ true) × (stands Zbdd 0 two.nodes lo.0 ≡ true)
         less_operands = (of_high.stands_at, lo_two.stands_at)
 
@@ -240,6 +256,7 @@ module _ (old : Table) (root : NodeId) (limit most : ℕ) (at_most : limit ≤ m
         three-steps three answer call =
             call-then high answer (two-steps two (Ok high) second) (less-step two grown_two second.progress.table.fit high.0 lo.0 of_high lo_two three answer call)
 
+        -- an error of the subset removal is passed on
         pub less-exit : {A : Type 0} (three : Table) (answer : Result A NodeError) → IsCall (AreTailsOf (IsMember (has two.nodes high.0))) (pair_level two.nodes high.0 lo.0) two three answer → IsCall Wide (level old.nodes root.0) old three answer
         less-exit three answer call = exit three answer (three-steps three answer call)
 
@@ -258,14 +275,17 @@ module _ (old : Table) (root : NodeId) (limit most : ℕ) (at_most : limit ≤ m
               result-kept third.progress.nodes MinimalOfBdd (limit - 1) third.progress.table.fit n.hi.0 0 high.0
               (stands-below Bdd 0 two.nodes n.hi.0 (hi_zero two grown_two second.progress.table.fit)) (omega arith) of_high
 
+          -- the sides make a ready result
           pub ready : IsReady three.nodes (cut_key root limit) (2 * n.var) hi.0 lo.0
           ready =
               its_ready three whole third.progress.table.fit hi.0 lo.0 lo_now (past-high three whole third.progress.table.fit high.0 lo.0 hi.0 high_now of_hi)
               (some-high three whole third.progress.table.fit high.0 lo.0 hi.0 some high_now of_hi)
 
+          -- no step remembered the key
           pub absent : Lacks old.entries (cut_key root limit) → Lacks three.entries (cut_key root limit)
           absent lacks = lacks-still three (Ok hi) (three-steps three (Ok hi) third) lacks
 
+          -- all steps are the call
           pub whole-call : {A : Type 0} (now : Table) (answer : Result A NodeError) → IsCall (AreTailsOf (IsMember (joined (2 * n.var) (has three.nodes hi.0) (has three.nodes lo.0)))) (2 * n.var) three now answer → IsCall Wide (level old.nodes root.0) old now answer
           whole-call now answer last =
               call-then hi answer (less-exit three (Ok hi) third)

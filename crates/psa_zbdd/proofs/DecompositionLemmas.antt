@@ -177,6 +177,7 @@ module _ (x : ℕ) (f f1 f0 : (ℕ → Bool) → Bool) (is : (s : ℕ → Bool) 
             strict : (z : ℕ) → y ≡ 2 * z → (x ≡ z → ⊥)
             strict z h e = ne (h ∙ ap (λ n. 2 * n) (sym e))
 
+    -- the two sides together: what the families of the sides must hold
     pub cut-sides : (product : List ℕ) → (joined (2 * x) h1 h0 product ≡ true) ↔ IsCutProduct f limit product
     cut-sides [] = (λ m. low-to [] m, λ c. low-from [] refl c)
     cut-sides (y ∷ ys) = elim (eqb_tells y (2 * x)) [

@@ -104,6 +104,7 @@ module _ (ns : List Node) (fit : AllFit ns) (family limit : ℕ) (st : stands Zb
   pub product-short : (short : List ℕ → Bool) → ((set : List ℕ) → (short set ≡ true) ↔ IsProductMember (has ns family) (has ns 1) limit set) → AreShort (has ns family) limit short
   product-short short is set = (λ m. short-of set ((is set).0 m), λ p. (is set).1 (of-short set p.0 p.1))
 
+  -- the members of few literals are the product with the empty set
   pub short-product : (short : List ℕ → Bool) → AreShort (has ns family) limit short → (set : List ℕ) → (short set ≡ true) ↔ IsProductMember (has ns family) (has ns 1) limit set
   short-product short is set = (λ m. let p = (is set).0 m in of-short set p.0 p.1, λ p. (is set).1 (short-of set p))
 
@@ -123,6 +124,7 @@ module _ (x limit : ℕ) (f1 f0 h1 h0 : List ℕ → Bool) (high : (set : List �
     λ p. let le = p.1 in (high ys).1 (omega (arith, le), p.0, omega (arith, le)),
   )
 
+  -- they are found side by side
   pub short-sides : AreShort (joined x f1 f0) limit (joined x h1 h0)
   short-sides [] = low []
   short-sides (y ∷ ys) = elim (eqb_tells y x) [

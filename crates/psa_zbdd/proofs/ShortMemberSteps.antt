@@ -22,6 +22,7 @@ use Rattle.psa_nodes.proofs.CallerLemmas.{side-call, exit-call, last-call}
 use Rattle.psa_zbdd.proofs.ResultLemmas.{result-kept}
 use Rattle.psa_zbdd.proofs.ShortMemberLemmas.{AreShort, tail-positive, product-short, short-product, short-sides, past-short}
 
+-- what they are remembered by
 abbrev pub short_key : NodeId → ℕ → MemoKey
 short_key family limit = record { operation = Product; left = family; right = UNIT; limit = limit }
 
@@ -29,6 +30,7 @@ short_key family limit = record { operation = Product; left = family; right = UN
 abbrev pub ShortCalled : {A : Type 0} → ℕ → Table → Table → Result A NodeError → Type 0
 ShortCalled family before now answer = IsCall (AreTailsOf (IsMember (has before.nodes family))) (level before.nodes family) before now answer
 
+-- the id is the family of the members within the limit
 abbrev pub IsShort : List Node → ℕ → ℕ → ℕ → Type 0
 IsShort ns family limit id = IsResult Product limit ns family 1 id
 
@@ -42,6 +44,7 @@ module _ (old : Table) (family : NodeId) (limit : ℕ) (n : Node) (st : stands Z
   kind : n.kind ≡ Zbdd
   kind = (stands-at Zbdd 0 old.nodes family.0 n st there).0
 
+  -- where the family stands
   pub old_level : n.var ≡ level old.nodes family.0
   old_level = sym (level-node old.nodes family.0 n there ∙ ap (λ k. first_literal k n.var) kind)
 
@@ -62,21 +65,27 @@ module _ (old : Table) (family : NodeId) (limit : ℕ) (n : Node) (st : stands Z
     in-low : (set : List ℕ) → has now.nodes n.lo.0 set ≡ true → source set ≡ true
     in-low set m = back set (low-member now.nodes fit n.var family.0 n.hi.0 n.lo.0 sides set m)
 
+    -- the high side's level is past the variable
     pub past_hi : n.var + 1 ≤ level now.nodes n.hi.0
     past_hi = level-stands Zbdd (n.var + 1) now.nodes n.hi.0 (omega (arith, bound)) sides.hi_stands
 
+    -- and the low side's
     pub past_lo : n.var + 1 ≤ level now.nodes n.lo.0
     past_lo = level-stands Zbdd (n.var + 1) now.nodes n.lo.0 (omega (arith, bound)) sides.lo_stands
 
+    -- both may be operands
     pub hi_zero : stands Zbdd 0 now.nodes n.hi.0 ≡ true
     hi_zero = stands-weaker Zbdd (n.var + 1) 0 now.nodes n.hi.0 (omega arith) sides.hi_stands
 
+    -- the low one too
     pub lo_zero : stands Zbdd 0 now.nodes n.lo.0 ≡ true
     lo_zero = stands-weaker Zbdd (n.var + 1) 0 now.nodes n.lo.0 (omega arith) sides.lo_stands
 
+    -- the high side is of events that occur
     pub hi_positive : ArePositive (has now.nodes n.hi.0)
     hi_positive set m = let p = positive (n.var ∷ set) (in-high set m) in tail-positive n.var set p.0 p.1
 
+    -- and so is the low side
     pub lo_positive : ArePositive (has now.nodes n.lo.0)
     lo_positive set m = positive set (in-low set m)
 
@@ -109,6 +118,7 @@ module _ (old : Table) (family : NodeId) (limit : ℕ) (n : Node) (st : stands Z
           subst (λ (f : List ℕ → Bool). AreShort f limit (joined n.var (has now.nodes hi) (has now.nodes lo))) (λ i set. sym (sides.reads set) i)
           (short-sides n.var limit (has now.nodes n.hi.0) (has now.nodes n.lo.0) (has now.nodes hi) (has now.nodes lo) of_hi low_short)
 
+      -- both sides' results make a ready result
       pub its_ready : IsReady now.nodes (short_key family limit) n.var hi lo
       its_ready = record {
         bounded = bound;
@@ -123,6 +133,7 @@ module _ (old : Table) (family : NodeId) (limit : ℕ) (n : Node) (st : stands Z
         computes = short-product now.nodes fit family.0 limit (stands-kept g Zbdd 0 family.0 st) (λ set m. positive set (back set m)) (joined n.var (has now.nodes hi) (has now.nodes lo)) its_short;
       }
 
+      -- and the making of it is the last step
       pub last-step : {A : Type 0} (after : Table) (answer : Result A NodeError) → IsCall (AreTailsOf (IsMember (joined n.var (has now.nodes hi) (has now.nodes lo)))) n.var now after answer → IsCall (AreTailsOf (IsMember source)) low now after answer
       last-step after answer call = last-call (IsMember source) n.var low low_least (IsMember (joined n.var (has now.nodes hi) (has now.nodes lo))) (λ set m. back set ((its_short set).0 m).0) answer call
 
@@ -151,6 +162,7 @@ module _ (old : Table) (family : NodeId) (limit : ℕ) (n : Node) (st : stands Z
     first-step : {A : Type 0} (one : Table) (answer : Result A NodeError) → ShortCalled n.lo.0 old one answer → IsCall (AreTailsOf (IsMember source)) (n.var + 1) old one answer
     first-step one answer call = low-step old (grown-own old.nodes) fit one answer call
 
+    -- an error of the first call is passed on
     pub low-exit : {A : Type 0} (one : Table) (answer : Result A NodeError) → ShortCalled n.lo.0 old one answer → IsCall (AreTailsOf (IsMember source)) low old one answer
     low-exit one answer call = exit-call (IsMember source) n.var low low_least answer (first-step one answer call)
 
@@ -158,24 +170,28 @@ module _ (old : Table) (family : NodeId) (limit : ℕ) (n : Node) (st : stands Z
     module _ (one : Table) (lo : NodeId) (first : ShortCalled n.lo.0 old one (Ok lo)) (of_lo : IsShort one.nodes n.lo.0 limit lo.0) where
       -- no literal more is allowed
       module _ (none : limit ≡ 0) where
+        -- the low side's members alone make a ready result
         pub low-ready : IsReady one.nodes (short_key family limit) n.var 0 lo.0
         low-ready =
             let g = first.progress.nodes in
             let f = first.progress.table.fit in
             its_ready one g f 0 lo.0 of_lo (zero_past one g f) (zero-high one g f none)
 
+        -- these two steps are the call
         pub low-call : {A : Type 0} (now : Table) (answer : Result A NodeError) → IsCall (AreTailsOf (IsMember (joined n.var (has one.nodes 0) (has one.nodes lo.0)))) n.var one now answer → IsCall (AreTailsOf (IsMember source)) low old now answer
         low-call now answer last =
             let g = first.progress.nodes in
             let f = first.progress.table.fit in
             call-then lo answer (low-exit one (Ok lo) first) (last-step one g f 0 lo.0 of_lo (zero_past one g f) (zero-high one g f none) now answer last)
 
+      -- the first call did not remember the key
       pub low-absent : Lacks old.entries (short_key family limit) → Lacks one.entries (short_key family limit)
       low-absent lacks = lacks-still one (Ok lo) (first-step one (Ok lo) first) lacks
 
       two-steps : {A : Type 0} (two : Table) (answer : Result A NodeError) → ShortCalled n.hi.0 one two answer → IsCall (AreTailsOf (IsMember source)) (n.var + 1) old two answer
       two-steps two answer call = call-then lo answer (first-step one (Ok lo) first) (high-step one first.progress.nodes first.progress.table.fit two answer call)
 
+      -- an error of the second call is passed on
       pub high-exit : {A : Type 0} (two : Table) (answer : Result A NodeError) → ShortCalled n.hi.0 one two answer → IsCall (AreTailsOf (IsMember source)) low old two answer
       high-exit two answer call = exit-call (IsMember source) n.var low low_least answer (two-steps two answer call)
 
@@ -189,14 +205,17 @@ module _ (old : Table) (family : NodeId) (limit : ℕ) (n : Node) (st : stands Z
             result-kept second.progress.nodes Product limit second.progress.table.fit n.lo.0 1 lo.0
             (stands-below Zbdd 0 one.nodes n.lo.0 (lo_zero one first.progress.nodes first.progress.table.fit)) (omega arith) of_lo
 
+        -- both sides make a ready result
         pub ready : IsReady two.nodes (short_key family limit) n.var hi.0 lo.0
         ready =
             let f = second.progress.table.fit in
             its_ready two whole f hi.0 lo.0 lo_now (past-high two whole f hi.0 of_hi) (some-high two whole f hi.0 of_hi some)
 
+        -- no step remembered the key
         pub absent : Lacks old.entries (short_key family limit) → Lacks two.entries (short_key family limit)
         absent lacks = lacks-still two (Ok hi) (two-steps two (Ok hi) second) lacks
 
+        -- all steps are the call
         pub whole-call : {A : Type 0} (now : Table) (answer : Result A NodeError) → IsCall (AreTailsOf (IsMember (joined n.var (has two.nodes hi.0) (has two.nodes lo.0)))) n.var two now answer → IsCall (AreTailsOf (IsMember source)) low old now answer
         whole-call now answer last =
             let f = second.progress.table.fit in

@@ -34,6 +34,7 @@ joined-same : (x : ℕ) (hi hi' lo lo' : List ℕ → Bool) → ((set : List ℕ
 joined-same x hi hi' lo lo' h l [] = l []
 joined-same x hi hi' lo lo' h l (y ∷ ys) = elim (eqb_tells y x) [ inl p ↦ rw p.0 (h ys) | inr p ↦ rw p.0 (l (y ∷ ys)) ]
 
+-- the sides stay the sides when nodes are added
 pub split-kept : {before now : List Node} → Grown before now → (var id hi lo : ℕ) → stands Zbdd 0 before id ≡ true → IsSplit before var id hi lo → IsSplit now var id hi lo
 split-kept {before} {now} g var id hi lo st p = record {
   hi_stands = stands-kept g Zbdd (var + 1) hi p.hi_stands;
@@ -45,6 +46,7 @@ split-kept {before} {now} g var id hi lo st p = record {
       (λ s. sym (has-kept g lo s (stands-below Zbdd (var + 1) before lo p.lo_stands))) set;
 }
 
+-- those of two families too
 pub sides-kept : {before now : List Node} → Grown before now → (left right : NodeId) (s : Sides) → AreSides before left right s → AreSides now left right s
 sides-kept {before} g left right s a =
     let l = stands-weaker Zbdd s.var 0 before left.0 (omega arith) a.left_stands in
@@ -65,6 +67,7 @@ low-member ns fit var id hi lo p (y ∷ ys) m =
     let lt : var < y = above-head var y ys (above-stands ns fit var lo p.lo_stands (y ∷ ys) m) in
     p.reads (y ∷ ys) ∙ joined-other var (has ns hi) (has ns lo) y ys (λ e. omega (arith, lt, e)) ∙ m
 
+-- a set of the high side is one of the family with the variable
 pub high-member : (ns : List Node) (var id hi lo : ℕ) → IsSplit ns var id hi lo → (set : List ℕ) → has ns hi set ≡ true → has ns id (var ∷ set) ≡ true
 high-member ns var id hi lo p set m = p.reads (var ∷ set) ∙ joined-own var (has ns hi) (has ns lo) set ∙ m
 
@@ -91,6 +94,7 @@ least-place (Some n) (Some m) v lt h = h
 
 -- the least variable of two nodes of a bounded table is below the bound
 module _ (ns : List Node) (bounded : IsBounded ns) (left right : ℕ) (sl : stands Zbdd 0 ns left ≡ true) (sr : stands Zbdd 0 ns right ≡ true) where
+  -- whichever of the two is there
   pub least-bounded : (first second : Option Node) → IfSome first (λ n. node_at ns left ≡ Some n) → IfSome second (λ n. node_at ns right ≡ Some n) → (v : ℕ) → IsLeast first second v → v < MAX_LITERAL_NUMBERS
   least-bounded None None f s v h = absurd h
   least-bounded None (Some n) f s v h = let own : n.var < MAX_LITERAL_NUMBERS = bounded-at Zbdd ns bounded right n sr s in omega (arith, own, h)

@@ -15,6 +15,7 @@ use Rattle.psa_nodes.proofs.CallerLemmas.{joined-own, joined-other, has-zero, st
 use Rattle.psa_nodes.proofs.CallerLemmas.{AreAbove, above-head, above-stands, stands-above}
 use Rattle.psa_zbdd.proofs.ResultLemmas.{is_result}
 
+-- the sets of the left family that include none of the right one
 abbrev pub IsSubsetRemoval : (List ℕ → Bool) → (List ℕ → Bool) → (List ℕ → Bool) → Type 0
 IsSubsetRemoval left right family = (set : List ℕ) → (family set ≡ true) ↔ ((left set ≡ true) × Spares right set)
 
@@ -68,6 +69,7 @@ module _ (x : ℕ) (f1 f0 g1 g0 b1 h1 h0 : List ℕ → Bool) (left_above : AreA
     λ p. (lo set).1 (p.0, low-spares x g1 g0 right_above set p.1),
   )
 
+  -- so both sides together are what remains of the whole
   pub without-sides : IsSubsetRemoval (joined x f1 f0) (joined x g1 g0) (joined x h1 h0)
   without-sides [] = low-case []
   without-sides (y ∷ ys) = elim (eqb_tells y x) [
@@ -92,15 +94,19 @@ module _ (ns : List Node) (fit : AllFit ns) (left right : ℕ) where
       is_result Without 0 ns left right 0 fit (stands-terminal Zbdd 0 ns 0 (omega arith))
       (λ set. (λ e. absurd (false≢true (sym (has-zero ns set) ∙ e)), λ p. absurd (none set p.0 p.1)))
 
+  -- a family removes all of itself
   pub without-own : left ≡ right → IsResult Without 0 ns left right 0
   without-own e = none-left (λ set m s. s set (ap (λ (x : ℕ). has ns x set) (sym e) ∙ m) (part-self set))
 
+  -- nothing remains of the empty family
   pub without-nothing : left ≡ 0 → IsResult Without 0 ns left right 0
   without-nothing e = none-left (λ set m s. false≢true (sym (has-zero ns set) ∙ ap (λ (x : ℕ). has ns x set) (sym e) ∙ m))
 
+  -- the empty set is a part of every set
   pub without-all : right ≡ 1 → IsResult Without 0 ns left right 0
   without-all e = none-left (λ set m s. s [] (ap (λ (x : ℕ). has ns x []) e ∙ has-one ns) (part-nil set))
 
+  -- the empty family removes nothing
   pub without-none : right ≡ 0 → stands Zbdd 0 ns left ≡ true → IsResult Without 0 ns left right left
   without-none e st =
       is_result Without 0 ns left right left fit st

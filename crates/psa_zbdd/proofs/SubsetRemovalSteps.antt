@@ -20,6 +20,7 @@ use Rattle.psa_nodes.proofs.CallerLemmas.{IsSideOf, side-call, exit-call, last-c
 use Rattle.psa_zbdd.proofs.ResultLemmas.{result-kept}
 use Rattle.psa_zbdd.proofs.SubsetRemovalLemmas.{IsSubsetRemoval, without-sides, past-without}
 
+-- what the result is remembered by
 abbrev pub without_key : NodeId → NodeId → MemoKey
 without_key left right = record { operation = Without; left = left; right = right; limit = 0 }
 
@@ -57,18 +58,22 @@ module _ (old : Table) (left right : NodeId) (s : Sides) (a : AreSides old.nodes
     low_side : IsSideOf s.var (IsMember source) (IsMember (has now.nodes s.left_lo.0))
     low_side set m = inl (back set (low-member now.nodes fit s.var left.0 s.left_hi.0 s.left_lo.0 now_sides.of_left set m))
 
+    -- the high sides stand past the variable
     pub past_hi : s.var + 1 ≤ pair_level now.nodes s.left_hi.0 s.right_hi.0
     past_hi = pair-past now.nodes s.var s.left_hi.0 s.right_hi.0 a.bound now_sides.of_left.hi_stands now_sides.of_right.hi_stands
 
+    -- and so do the low sides
     pub past_lo : s.var + 1 ≤ pair_level now.nodes s.left_lo.0 s.right_lo.0
     past_lo = pair-past now.nodes s.var s.left_lo.0 s.right_lo.0 a.bound now_sides.of_left.lo_stands now_sides.of_right.lo_stands
 
     weak : (id : ℕ) → stands Zbdd (s.var + 1) now.nodes id ≡ true → stands Zbdd 0 now.nodes id ≡ true
     weak id st = stands-weaker Zbdd (s.var + 1) 0 now.nodes id (omega arith) st
 
+    -- the high sides may be operands
     pub high_operands : (stands Zbdd 0 now.nodes s.left_hi.0 ≡ true) × (stands Zbdd 0 now.nodes s.right_hi.0 ≡ true)
     high_operands = (weak s.left_hi.0 now_sides.of_left.hi_stands, weak s.right_hi.0 now_sides.of_right.hi_stands)
 
+    -- and the low sides
     pub low_operands : (stands Zbdd 0 now.nodes s.left_lo.0 ≡ true) × (stands Zbdd 0 now.nodes s.right_lo.0 ≡ true)
     low_operands = (weak s.left_lo.0 now_sides.of_left.lo_stands, weak s.right_lo.0 now_sides.of_right.lo_stands)
 
@@ -83,9 +88,11 @@ module _ (old : Table) (left right : NodeId) (s : Sides) (a : AreSides old.nodes
       both_stands : stands Zbdd (s.var + 1) now.nodes both ≡ true
       both_stands = past-without now.nodes fit s.var s.left_hi.0 s.right_hi.0 both now_sides.of_left.hi_stands of_both
 
+      -- what remains of the high side stands past the variable
       pub past_both : s.var + 1 ≤ pair_level now.nodes both s.right_lo.0
       past_both = pair-past now.nodes s.var both s.right_lo.0 a.bound both_stands now_sides.of_right.lo_stands
 
+      -- and may be an operand
       pub both_operands : (stands Zbdd 0 now.nodes both ≡ true) × (stands Zbdd 0 now.nodes s.right_lo.0 ≡ true)
       both_operands = (weak both both_stands, weak s.right_lo.0 now_sides.of_right.lo_stands)
 
@@ -122,6 +129,7 @@ module _ (old : Table) (left right : NodeId) (s : Sides) (a : AreSides old.nodes
       }
 
   module _ (fit : AllFit old.nodes) where
+    -- an error of the first call is passed on
     pub first-exit : {A : Type 0} (one : Table) (answer : Result A NodeError) → Called s.left_hi.0 s.right_hi.0 old one answer → IsCall (AreTailsOf (IsMember source)) low old one answer
     first-exit one answer call = exit-call (IsMember source) s.var low low_least answer (first-step old (grown-own old.nodes) fit one answer call)
 
@@ -131,11 +139,13 @@ module _ (old : Table) (left right : NodeId) (s : Sides) (a : AreSides old.nodes
       two-steps two answer call =
           call-then both answer (first-step old (grown-own old.nodes) fit one (Ok both) first) (second-step one first.progress.nodes first.progress.table.fit both.0 of_both two answer call)
 
+      -- an error of the second call is passed on
       pub second-exit : {A : Type 0} (two : Table) (answer : Result A NodeError) → Called both.0 s.right_lo.0 one two answer → IsCall (AreTailsOf (IsMember source)) low old two answer
       second-exit two answer call = exit-call (IsMember source) s.var low low_least answer (two-steps two answer call)
 
       -- after the high side of the result
       module _ (two : Table) (hi : NodeId) (second : Called both.0 s.right_lo.0 one two (Ok hi)) (of_hi : IsResult Without 0 two.nodes both.0 s.right_lo.0 hi.0) where
+        -- two calls added nodes alone
         pub grown_two : Grown old.nodes two.nodes
         grown_two = (two-steps two (Ok hi) second).progress.nodes
 
@@ -143,6 +153,7 @@ module _ (old : Table) (left right : NodeId) (s : Sides) (a : AreSides old.nodes
         three-steps three answer call =
             call-then hi answer (two-steps two (Ok hi) second) (third-step two grown_two second.progress.table.fit three answer call)
 
+        -- an error of the third call is passed on
         pub third-exit : {A : Type 0} (three : Table) (answer : Result A NodeError) → Called s.left_lo.0 s.right_lo.0 two three answer → IsCall (AreTailsOf (IsMember source)) low old three answer
         third-exit three answer call = exit-call (IsMember source) s.var low low_least answer (three-steps three answer call)
 
@@ -163,14 +174,17 @@ module _ (old : Table) (left right : NodeId) (s : Sides) (a : AreSides old.nodes
               result-kept third.progress.nodes Without 0 third.progress.table.fit both.0 s.right_lo.0 hi.0
               (stands-below Zbdd 0 two.nodes both.0 (stands-kept second.progress.nodes Zbdd 0 both.0 of_both.stands_at)) (stands-below Zbdd 0 two.nodes s.right_lo.0 o.1) of_hi
 
+          -- the results make a ready result
           pub ready : IsReady three.nodes (without_key left right) s.var hi.0 lo.0
           ready = its_ready three whole third.progress.table.fit both.0 hi.0 lo.0 both_now hi_now of_lo
 
+          -- no call remembered the key
           pub absent : Lacks old.entries (without_key left right) → Lacks three.entries (without_key left right)
           absent lacks =
               let e = kept_level three whole third.progress.table.fit in
               progress-lacks (three-steps three (Ok lo) third).progress (without_key left right) lacks (omega (arith, e))
 
+          -- all steps are the call
           pub whole-call : {A : Type 0} (now : Table) (answer : Result A NodeError) → IsCall (AreTailsOf (IsMember (joined s.var (has three.nodes hi.0) (has three.nodes lo.0)))) s.var three now answer → IsCall (AreTailsOf (IsMember source)) low old now answer
           whole-call now answer last =
               call-then lo answer (third-exit three (Ok lo) third)

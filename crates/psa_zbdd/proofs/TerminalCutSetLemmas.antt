@@ -13,6 +13,7 @@ use Rattle.psa_nodes.specs.Progress.{IsResult}
 use Rattle.psa_nodes.proofs.CallerLemmas.{stands-terminal, truth-terminal}
 use Rattle.psa_zbdd.proofs.ResultLemmas.{is_result}
 
+-- a terminal is the empty family or that of the empty set
 pub has-terminal : (ns : List Node) (id : ℕ) (set : List ℕ) → id < 2 → has ns id set ≡ ((id == 1) && is_empty set)
 has-terminal [] id set lt = refl
 has-terminal (n ∷ older) id set lt = rw (ne_eqb id (length older + 2) (λ e. omega arith)) (has-terminal older id set lt)
@@ -41,6 +42,7 @@ module _ (ns : List Node) (root limit : ℕ) (lt : root < 2) where
       let none : [] ≡ set = ap (λ (s : List ℕ). positive_product s) empty ∙ sym c.is_set in
       subst (λ (s : List ℕ). has ns root s ≡ true) none (has-terminal ns root [] lt ∙ and_from (root == 1) true one refl)
 
+  -- a terminal of a diagram is the family of its own cut sets
   pub terminal-cuts : AllFit ns → IsResult MinimalOfBdd limit ns root 0 root
   terminal-cuts fit =
       is_result MinimalOfBdd limit ns root 0 root fit (stands-terminal Zbdd 0 ns root lt) (λ set. (λ m. to-cut set m, λ c. from-cut set c))

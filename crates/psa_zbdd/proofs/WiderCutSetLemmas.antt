@@ -31,6 +31,7 @@ level-cuts ns fit (suc x) root limit id st r =
 
 -- the cut sets within a greater limit are remembered
 module _ (old : Table) (root : NodeId) (limit most : ℕ) (family : NodeId) (fit : AllFit old.nodes) (st : stands Bdd 0 old.nodes root.0 ≡ true) (wider : AreWiderCuts old.nodes root.0 limit most family.0) where
+  -- taking the short members of a wider family is a call of the cut sets
   pub wider-call : IsBounded old.nodes → 2 ≤ root.0 → {A : Type 0} (now : Table) (answer : Result A NodeError) → IsCall (AreTailsOf (IsMember (has old.nodes family.0))) (level old.nodes family.0) old now answer → CutCalled root.0 most old now answer
   wider-call small inner now answer call =
       call-wide le
@@ -56,6 +57,7 @@ module _ (old : Table) (root : NodeId) (limit most : ℕ) (family : NodeId) (fit
           let e = own in
           omega (arith, e, past)
 
+  -- and gives the cut sets within the limit
   pub wider-cuts : (now : Table) (id : NodeId) → Grown old.nodes now.nodes → AllFit now.nodes → IsResult Product limit now.nodes family.0 1 id.0 → IsCuts now.nodes root.0 limit id.0
   wider-cuts now id g f s =
       short-cuts now.nodes f root.0 limit wider.bound family.0 id.0 wider.from

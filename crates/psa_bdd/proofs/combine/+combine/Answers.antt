@@ -3,9 +3,9 @@ use Rattle.std.proofs.lemmas.Result.{err_from_is_err_and}
 use Rattle.psa_nodes.specs.declared.node.Kind.TheVariants.{Bdd}
 use Rattle.psa_nodes.proofs.CallerLemmas.{stands-weaker}
 use Rattle.psa_bdd.specs.Combined.{pair_level}
-use Rattle.psa_bdd.proofs.Keys.{result-key}
-use Rattle.psa_bdd.proofs.Levels.{falls}
-use Rattle.psa_bdd.proofs.Recursion.{past_hi, past_lo, left_lo_stands, right_lo_stands, high-exit, low-exit, ready, absent, whole-call}
+use Rattle.psa_bdd.proofs.KeyLemmas.{result-key}
+use Rattle.psa_bdd.proofs.LevelLemmas.{falls}
+use Rattle.psa_bdd.proofs.CombineSteps.{past_hi, past_lo, left_lo_stands, right_lo_stands, high-exit, low-exit, ready, absent, whole-call}
 use Rattle.psa_bdd.proofs.combine.+combine.Goals as goal
 
 pub returns-in-Some-remembered-clause-combined : goal.returns-in-Some-remembered-clause-combined

@@ -1,4 +1,4 @@
-use Rattle.psa_bdd.proofs.Levels.{left_above}
+use Rattle.psa_bdd.proofs.LevelLemmas.{left_above}
 use Rattle.psa_bdd.proofs.combine.+combine.Given as goal
 
 abbrev pub decreases-combine : goal.decreases-combine

@@ -12,8 +12,8 @@ use Rattle.psa_nodes.specs.Progress.{IsCall, IsResult, key_level}
 use Rattle.psa_nodes.proofs.CallerLemmas.{stands-kept, stands-weaker, level-stands, progress-remember, progress-own, call-done, call-memory, call-then, call-node}
 use Rattle.psa_bdd.specs.declared.connective.Connective.{Connective}
 use Rattle.psa_bdd.specs.Combined.{operation_of, key_of, IsCofactors, IsReady}
-use Rattle.psa_bdd.proofs.Keys.{right-key, key-level}
-use Rattle.psa_bdd.proofs.Branches.{own-origin, made-result}
+use Rattle.psa_bdd.proofs.KeyLemmas.{right-key, key-level}
+use Rattle.psa_bdd.proofs.SidesLemmas.{own-origin, made-result}
 use Rattle.psa_bdd.proofs.combine.finish.Goals as goal
 
 -- the node, and then the entry
@@ -77,23 +77,24 @@ remember-requires-clause-right c =
     rw c.key.ensures (its_right a.connective a.table.now c.requires.table a.left a.right a.var a.hi a.lo c.requires.ready
     c.bdd_node.new.self c.in_ok-id.id c.in_ok-id.ensures.table c.in_ok-id.ensures.made)
 
-pub returns-in-Ok-clause-combined : goal.returns-in-Ok-clause-combined
-returns-in-Ok-clause-combined c =
+pub returns-clause-combined : goal.returns-clause-combined
+returns-clause-combined c =
     let a = c.args in
-    subst (λ (t : Table). IsResult (operation_of a.connective) 0 t.nodes a.left.0 a.right.0 c.in_ok-id.id.0) (sym c.in-Ok.ensures.ok)
+    subst (λ (t : Table). IsResult (operation_of a.connective) 0 t.nodes a.left.0 a.right.0 c.in_ok-id.id.0) (sym c.in_ok-remember.ensures.ok)
     (its_result a.connective a.table.now c.requires.table a.left a.right a.var a.hi a.lo c.requires.ready
     c.bdd_node.new.self c.in_ok-id.id c.in_ok-id.ensures.table c.in_ok-id.ensures.made)
 
-pub returns-in-Ok-clause-call : goal.returns-in-Ok-clause-call
-returns-in-Ok-clause-call c =
+pub returns-clause-call : goal.returns-clause-call
+returns-clause-call c =
     let a = c.args in
     entered a.connective a.table.now c.requires.table a.left a.right a.var a.hi a.lo c.requires.ready
     c.bdd_node.new.self c.in_ok-id.id c.in_ok-id.ensures.table c.in_ok-id.ensures.made
-    c.key.result c.key.ensures c.remember.new.self c.in-Ok.ensures.ok c.remember.ensures.table
+    c.key.result c.key.ensures c.remember.new.self c.in_ok-remember.ensures.ok c.remember.ensures.table
 
-pub returns-in-Err-clause-call : goal.returns-in-Err-clause-call
-returns-in-Err-clause-call c =
+pub returns-in_err-remember-clause-call : goal.returns-in_err-remember-clause-call
+returns-in_err-remember-clause-call c =
     let a = c.args in
-    wanted a.connective a.table.now c.requires.table a.left a.right a.var a.hi a.lo c.requires.ready
+    let p = err_from_is_err_and c.from_residual-in_err-remember.result c.from_residual-in_err-remember.ensures.1 in
+    rw (p.1, p.2) (wanted a.connective a.table.now c.requires.table a.left a.right a.var a.hi a.lo c.requires.ready
     c.bdd_node.new.self c.in_ok-id.id c.in_ok-id.ensures.table c.in_ok-id.ensures.made
-    c.remember.new.self c.in-Err.ensures.err
+    c.remember.new.self c.in_err-remember.ensures.err)

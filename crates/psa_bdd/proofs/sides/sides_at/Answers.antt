@@ -1,6 +1,6 @@
 use Rattle.std.proofs.Common.{ℕ, arith, subst}
 use Rattle.psa_bdd.specs.Combined.{IsSplit}
-use Rattle.psa_bdd.proofs.Branches.{split-own, split-same}
+use Rattle.psa_bdd.proofs.SidesLemmas.{split-own, split-same}
 use Rattle.psa_bdd.proofs.sides.sides_at.Goals as goal
 
 pub returns-then-node-var : goal.returns-then-node-var

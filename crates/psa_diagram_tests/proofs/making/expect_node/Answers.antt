@@ -3,12 +3,13 @@ use Rattle.psa_nodes.specs.Readings.{stands}
 use Rattle.psa_nodes.proofs.CallerLemmas.{stands-terminal, stands-weaker, stands-node, node_at-some}
 use Rattle.psa_diagram_tests.proofs.making.expect_node.Goals as goal
 
-pub returns-then-id-lt2 : goal.returns-then-id-lt2
-returns-then-id-lt2 g c = stands-terminal c.args.kind c.args.from c.args.table.now.nodes c.args.id.0 c.if-id.true
+pub returns-then-id-lt-TERMINALS : goal.returns-then-id-lt-TERMINALS
+returns-then-id-lt-TERMINALS g c =
+    stands-terminal c.args.kind c.args.from c.args.table.now.nodes c.args.id.0 (omega (arith, c.if-id-lt-TERMINALS.true))
 
 pub node-node-requires : goal.node-node-requires
 node-node-requires g c =
-    let r = node_at-some c.args.table.now.nodes c.args.id.0 (omega (arith, c.if-id.false)) (omega arith) in
+    let r = node_at-some c.args.table.now.nodes c.args.id.0 (omega (arith, c.if-id-lt-TERMINALS.false)) (omega arith) in
     rw r.1 refl
 
 pub returns : goal.returns

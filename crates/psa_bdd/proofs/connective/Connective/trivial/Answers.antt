@@ -2,7 +2,7 @@ use Rattle.std.proofs.Common.{ℕ, ap, sym, ◌∙◌, eqb-true}
 use Rattle.psa_nodes.specs.declared.node.NodeId.{NodeId}
 use Rattle.psa_nodes.specs.Readings.{truth}
 use Rattle.psa_bdd.specs.Combined.{apply}
-use Rattle.psa_bdd.proofs.Apply.{apply-own, is_result, dominant-stands, dominant-left, dominant-right, neutral-left, neutral-right}
+use Rattle.psa_bdd.proofs.ConnectiveLemmas.{apply-own, is_result, dominant-stands, dominant-left, dominant-right, neutral-left, neutral-right}
 use Rattle.psa_bdd.proofs.connective.Connective.trivial.Goals as goal
 
 pub returns-then-eq-clause-found : goal.returns-then-eq-clause-found

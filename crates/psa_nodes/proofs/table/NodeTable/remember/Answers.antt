@@ -7,34 +7,24 @@ use Rattle.psa_nodes.proofs.EqualityLemmas.{key_eq}
 use Rattle.psa_nodes.proofs.EntryLemmas.{lookup-lacks}
 use Rattle.psa_nodes.proofs.MakesNodeLemmas.{table-entered}
 use Rattle.psa_nodes.proofs.table.NodeTable.remember.Goals as goal
-use Rattle.psa_nodes.proofs.table.NodeTable.remember.Goals.{in-Ok, in-Err}
 
-pub invariant_of-self : goal.invariant_of-self
-invariant_of-self c =
+pub invariant_of-self-2 : goal.invariant_of-self-2
+invariant_of-self-2 c =
     let i = c.self.inside in
     let old = table_of (reverse i.nodes.keys) i.memo.entries i.limit i.refused in
     let with_entries : List (MemoKey × NodeId) → Type 0 = λ es. IsTable (table_of (reverse i.nodes.keys) es i.limit i.refused) in
-    elim c.match-insert.branch [
-      | in-Ok w ↦
-          let lacks : Lacks i.memo.entries c.args.key = subst (λ (t : Table). Lacks t.entries c.args.key) (sym c.self.view_is) c.requires.absent in
-          let right : IsRight (reverse i.nodes.keys) c.args.key c.args.answer = subst (λ (t : Table). IsRight t.nodes c.args.key c.args.answer) (sym c.self.view_is) c.requires.right in
-          let pushed = w.in-Ok.ensures.entries ∙ insert_entry-new key_eq i.memo c.args.key c.args.answer (lookup-lacks i.memo.entries c.args.key lacks) in
-          subst with_entries (sym pushed) (table-entered old c.args.key c.args.answer c.self.invariant right lacks)
-      | in-Err w ↦ subst with_entries (sym w.in-Err.ensures.err) c.self.invariant
-    ]
+    let lacks : Lacks i.memo.entries c.args.key = subst (λ (t : Table). Lacks t.entries c.args.key) (sym c.self.view_is) c.requires.absent in
+    let right : IsRight (reverse i.nodes.keys) c.args.key c.args.answer = subst (λ (t : Table). IsRight t.nodes c.args.key c.args.answer) (sym c.self.view_is) c.requires.right in
+    let pushed = c.in_ok-insert.ensures.entries ∙ insert_entry-new key_eq i.memo c.args.key c.args.answer (lookup-lacks i.memo.entries c.args.key lacks) in
+    subst with_entries (sym pushed) (table-entered old c.args.key c.args.answer c.self.invariant right lacks)
 
 pub returns-clause-ok : goal.returns-clause-ok
 returns-clause-ok c =
     let i = c.self.inside in
-    elim c.match-insert.branch [
-      | in-Ok w ↦
-          let lacks : Lacks i.memo.entries c.args.key = subst (λ (t : Table). Lacks t.entries c.args.key) (sym c.self.view_is) c.requires.absent in
-          let pushed = w.in-Ok.ensures.entries ∙ insert_entry-new key_eq i.memo c.args.key c.args.answer (lookup-lacks i.memo.entries c.args.key lacks) in
-          rw w.result-is
-          (ap (λ (es : List (MemoKey × NodeId)). table_of (reverse i.nodes.keys) es i.limit i.refused) pushed
-          ∙ ap (λ (t : Table). record t { entries = t.entries ++ (c.args.key, c.args.answer) ∷ [] }) c.self.view_is)
-      | in-Err w ↦ rw w.result-is tt
-    ]
+    let lacks : Lacks i.memo.entries c.args.key = subst (λ (t : Table). Lacks t.entries c.args.key) (sym c.self.view_is) c.requires.absent in
+    let pushed = c.in_ok-insert.ensures.entries ∙ insert_entry-new key_eq i.memo c.args.key c.args.answer (lookup-lacks i.memo.entries c.args.key lacks) in
+    ap (λ (es : List (MemoKey × NodeId)). table_of (reverse i.nodes.keys) es i.limit i.refused) pushed
+    ∙ ap (λ (t : Table). record t { entries = t.entries ++ (c.args.key, c.args.answer) ∷ [] }) c.self.view_is
 
 pub returns-clause-table : goal.returns-clause-table
-returns-clause-table c = invariant_of-self c
+returns-clause-table c = invariant_of-self-2 c

@@ -12,9 +12,9 @@ use Rattle.psa_nodes.specs.Progress.{IsCall, IsResult, key_level}
 use Rattle.psa_nodes.proofs.CallerLemmas.{stands-below, stands-kept, stands-weaker, truth-kept, level-kept, call-then, call-wide, progress-lacks}
 use Rattle.psa_bdd.specs.declared.connective.Connective.{Connective}
 use Rattle.psa_bdd.specs.Combined.{operation_of, key_of, pair_level, IsCofactors, IsSplit, IsReady}
-use Rattle.psa_bdd.proofs.Keys.{key-level}
-use Rattle.psa_bdd.proofs.Levels.{pair-past}
-use Rattle.psa_bdd.proofs.Branches.{split-kept, high-origin, low-origin, result-kept, ready-sides}
+use Rattle.psa_bdd.proofs.KeyLemmas.{key-level}
+use Rattle.psa_bdd.proofs.LevelLemmas.{pair-past}
+use Rattle.psa_bdd.proofs.SidesLemmas.{split-kept, high-origin, low-origin, result-kept, ready-sides}
 
 module _ (c : Connective) (old : Table) (fit : AllFit old.nodes) (left right : NodeId) (var left_hi left_lo right_hi right_lo : ℕ)
     (l : IsSplit old.nodes var left.0 left_hi left_lo) (r : IsSplit old.nodes var right.0 right_hi right_lo)
@@ -29,6 +29,7 @@ module _ (c : Connective) (old : Table) (fit : AllFit old.nodes) (left right : N
   right_zero : stands Bdd 0 old.nodes right.0 ≡ true
   right_zero = stands-weaker Bdd var 0 old.nodes right.0 (omega arith) sr
 
+  -- the high sides stand past the variable
   pub past_hi : 2 * var + 2 ≤ pair_level old.nodes left_hi right_hi
   past_hi = pair-past old.nodes var left_hi right_hi bound l.hi_stands r.hi_stands
 
@@ -56,12 +57,15 @@ module _ (c : Connective) (old : Table) (fit : AllFit old.nodes) (left right : N
     right_mid : IsSplit mid.nodes var right.0 right_hi right_lo
     right_mid = split-kept g var right.0 right_hi right_lo right_zero r
 
+    -- and so do the low sides, in the table after the first call
     pub past_lo : 2 * var + 2 ≤ pair_level mid.nodes left_lo right_lo
     past_lo = pair-past mid.nodes var left_lo right_lo bound left_mid.lo_stands right_mid.lo_stands
 
+    -- the left low side may be combined
     pub left_lo_stands : stands Bdd 0 mid.nodes left_lo ≡ true
     left_lo_stands = stands-weaker Bdd (var + 1) 0 mid.nodes left_lo (omega arith) left_mid.lo_stands
 
+    -- and the right one
     pub right_lo_stands : stands Bdd 0 mid.nodes right_lo ≡ true
     right_lo_stands = stands-weaker Bdd (var + 1) 0 mid.nodes right_lo (omega arith) right_mid.lo_stands
 
@@ -88,6 +92,7 @@ module _ (c : Connective) (old : Table) (fit : AllFit old.nodes) (left right : N
       let le : pair_level old.nodes left.0 right.0 ≤ 2 * var + 2 = omega (arith, least) in
       call-wide le (λ k v x past o. o) answer call
 
+  -- an error of the first call is passed on
   pub high-exit : {A : Type 0} (mid : Table) (answer : Result A NodeError) → IsCall (IsCofactors c (truth old.nodes left_hi) (truth old.nodes right_hi)) (pair_level old.nodes left_hi right_hi) old mid answer → IsCall Wide (pair_level old.nodes left.0 right.0) old mid answer
   high-exit mid answer call = at-level mid answer (high-call mid answer call)
 
@@ -97,11 +102,13 @@ module _ (c : Connective) (old : Table) (fit : AllFit old.nodes) (left right : N
     both-call second answer low =
         call-then hi answer (high-call mid (Ok hi) high) (low-call mid high.progress.nodes high.progress.table.fit second answer low)
 
+    -- an error of the second call is passed on
     pub low-exit : {A : Type 0} (second : Table) (answer : Result A NodeError) → IsCall (IsCofactors c (truth mid.nodes left_lo) (truth mid.nodes right_lo)) (pair_level mid.nodes left_lo right_lo) mid second answer → IsCall Wide (pair_level old.nodes left.0 right.0) old second answer
     low-exit second answer low = at-level second answer (both-call second answer low)
 
     -- after the low sides
     module _ (second : Table) (lo : NodeId) (low : IsCall (IsCofactors c (truth mid.nodes left_lo) (truth mid.nodes right_lo)) (pair_level mid.nodes left_lo right_lo) mid second (Ok lo)) where
+      -- the results on the sides make a ready result
       pub ready : IsResult (operation_of c) 0 mid.nodes left_hi right_hi hi.0 → IsResult (operation_of c) 0 second.nodes left_lo right_lo lo.0 → IsReady c second.nodes left.0 right.0 var hi.0 lo.0
       ready of_high of_low =
           let g = (both-call second (Ok lo) low).progress.nodes in
@@ -114,12 +121,14 @@ module _ (c : Connective) (old : Table) (fit : AllFit old.nodes) (left right : N
           (stands-kept g Bdd var left.0 sl) (stands-kept g Bdd var right.0 sr)
           (left_mid second g f) (right_mid second g f) h of_low
 
+      -- no call on the sides remembered the key
       pub absent : Lacks old.entries (key_of c left right) → Lacks second.entries (key_of c left right)
       absent lacks =
           let p = (both-call second (Ok lo) low).progress in
           let e = kept_level second p.nodes low.progress.table.fit in
           progress-lacks p (key_of c left right) lacks (omega (arith, e))
 
+      -- the three steps are the call
       pub whole-call : {A : Type 0} (now : Table) (answer : Result A NodeError) → IsCall (IsCofactors c (truth second.nodes left.0) (truth second.nodes right.0)) (2 * var) second now answer → IsCall Wide (pair_level old.nodes left.0 right.0) old now answer
       whole-call now answer last =
           let both = both-call second (Ok lo) low in

@@ -12,7 +12,7 @@ use Rattle.psa_nodes.specs.Cofactors.{assigned}
 use Rattle.psa_nodes.proofs.CallerLemmas.{at, stands-node, stands-weaker, stands-below, stands-kept, truth-kept, fixed, IsBlind, blind-stands, fixed-past, high-side, low-side, stands-split, canonical, high-cofactor, low-cofactor, truth-agree, assigned-past, choice-same}
 use Rattle.psa_bdd.specs.declared.connective.Connective.{Connective}
 use Rattle.psa_bdd.specs.Combined.{apply, operation_of, IsCofactors, IsSplit, IsReady}
-use Rattle.psa_bdd.proofs.Apply.{apply-branch, is_result, result-stands, result-reads}
+use Rattle.psa_bdd.proofs.ConnectiveLemmas.{apply-branch, is_result, result-stands, result-reads}
 
 -- a node is its children by its own variable
 pub split-own : (ns : List Node) (id : ℕ) (m : Node) → AllFit ns → node_at ns id ≡ Some m → m.kind ≡ Bdd → IsSplit ns m.var id m.hi.0 m.lo.0
@@ -26,6 +26,7 @@ split-same ns id var m there kind lt =
     let st = rw kind at (stands-weaker m.kind m.var (var + 1) ns id (omega arith) (stands-node ns id m there)) in
     record { hi_stands = st; lo_stands = st; reads = λ s. elim (cases_Bool (s var)) [ inl p ↦ rw p refl | inr p ↦ rw p refl ] }
 
+-- the sides stay the sides when nodes are added
 pub split-kept : {before now : List Node} → Grown before now → (var id hi lo : ℕ) → stands Bdd 0 before id ≡ true → IsSplit before var id hi lo → IsSplit now var id hi lo
 split-kept {before} g var id hi lo st p = record {
   hi_stands = stands-kept g Bdd (var + 1) hi p.hi_stands;
@@ -37,6 +38,7 @@ split-kept {before} g var id hi lo st p = record {
 
 -- cofactors of the high sides are cofactors of both operands, for variables past the split's
 module _ (c : Connective) (ns : List Node) (fit : AllFit ns) (var left left_hi left_lo right right_hi right_lo : ℕ) (l : IsSplit ns var left left_hi left_lo) (r : IsSplit ns var right right_hi right_lo) where
+  -- cofactors of both high sides are cofactors of both operands
   pub high-origin : (k : Kind) (v : ℕ) (x : Reading) → 2 * var + 2 ≤ first_literal k v → IsCofactors c (truth ns left_hi) (truth ns right_hi) k v x → IsCofactors c (truth ns left) (truth ns right) k v x
   high-origin k v x past o =
       let past' : 2 * var + 2 ≤ 2 * v = rw o.of_bdd at past in
@@ -48,6 +50,7 @@ module _ (c : Connective) (ns : List Node) (fit : AllFit ns) (var left left_hi l
             (high-cofactor (truth ns right) (truth ns right_hi) (truth ns right_lo) var r.reads o.assignment v (omega arith) (blind-stands ns fit var right_hi r.hi_stands) s);
       }
 
+  -- and so are those of both low sides
   pub low-origin : (k : Kind) (v : ℕ) (x : Reading) → 2 * var + 2 ≤ first_literal k v → IsCofactors c (truth ns left_lo) (truth ns right_lo) k v x → IsCofactors c (truth ns left) (truth ns right) k v x
   low-origin k v x past o =
       let past' : 2 * var + 2 ≤ 2 * v = rw o.of_bdd at past in

@@ -7,6 +7,7 @@ use Rattle.psa_nodes.specs.Readings.{stands, level}
 use Rattle.psa_nodes.proofs.CallerLemmas.{level-stands}
 use Rattle.psa_bdd.specs.Combined.{pair_level}
 
+-- how far the operands stand before the end of all literals
 abbrev pub left_above : List Node → ℕ → ℕ → ℕ
 left_above ns left right = 2 ^ 33 - pair_level ns left right
 

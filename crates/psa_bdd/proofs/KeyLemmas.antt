@@ -10,7 +10,7 @@ use Rattle.psa_nodes.specs.Table.{IsRight}
 use Rattle.psa_nodes.specs.Progress.{IsResult, key_level}
 use Rattle.psa_bdd.specs.declared.connective.Connective.{Connective}
 use Rattle.psa_bdd.specs.Combined.{apply, operation_of, key_of, pair_level}
-use Rattle.psa_bdd.proofs.Apply.{computes-from, computes-to, operand-bdd, result-bdd, has-right, apply-comm, is_result, result-stands, result-reads}
+use Rattle.psa_bdd.proofs.ConnectiveLemmas.{computes-from, computes-to, operand-bdd, result-bdd, has-right, apply-comm, is_result, result-stands, result-reads}
 
 module _ (c : Connective) (ns : List Node) (left right : NodeId) where
   -- a key with its operands in one order or the other
@@ -24,6 +24,7 @@ module _ (c : Connective) (ns : List Node) (left right : NodeId) where
     computes = computes-from c 0 (reading ns a.0) (reading ns b.0) (reading ns id.0) h;
   }
 
+  -- the result is a right entry under its key
   pub right-key : (id : NodeId) → stands Bdd 0 ns left.0 ≡ true → stands Bdd 0 ns right.0 ≡ true → IsResult (operation_of c) 0 ns left.0 right.0 id.0 → IsRight ns (key_of c left right) id
   right-key id sl sr r =
       let st = result-stands c ns left.0 right.0 id.0 r in
@@ -37,6 +38,7 @@ module _ (c : Connective) (ns : List Node) (left right : NodeId) where
   result-ordered a b id fit r =
       is_result c ns a.0 b.0 id.0 fit (rw (result-bdd c) at r.result_stands) (computes-to c 0 (reading ns a.0) (reading ns b.0) (reading ns id.0) r.computes)
 
+  -- a right entry under the key is the result
   pub result-key : (id : NodeId) → AllFit ns → IsRight ns (key_of c left right) id → IsResult (operation_of c) 0 ns left.0 right.0 id.0
   result-key id fit r =
       elim (cases_Bool (nat_le left.0 right.0)) [
@@ -47,6 +49,7 @@ module _ (c : Connective) (ns : List Node) (left right : NodeId) where
             (λ s. result-reads c ns right.0 left.0 id.0 back s ∙ apply-comm c (truth ns right.0 s) (truth ns left.0 s))
       ]
 
+  -- a key stands where its operands do
   pub key-level : key_level ns (key_of c left right) ≡ pair_level ns left.0 right.0
   key-level =
       elim (cases_Bool (nat_le left.0 right.0)) [
