@@ -93,6 +93,10 @@ abbrev pub exact_quantity : ℕ → Scaled → Model → ExpandedEvent → Fract
 exact_quantity terms mission model event =
     held_in_unit (unwrap_or (option_map (exact_value MAX_VALUE_LEVELS terms mission model) (expression_of model event)) zero_fraction)
 
+-- the exact quantities of the events by number
+abbrev pub quantities_of : ℕ → Scaled → Expanded → List Fraction
+quantities_of terms mission expanded = map (exact_quantity terms mission expanded.model) expanded.events
+
 -- ---- intervals
 
 -- an interval in units, or why an operation refuses

@@ -52,5 +52,5 @@ pub use path_laws::{
 pub use product::{Literal, MAX_ORDER, Product};
 pub use settings::{Algorithm, Input, Mode, Settings};
 pub use targets::{Path, PathStep, Ranks, Target, Targets, Values};
-pub use value_laws::more_levels_change_no_value;
+pub use value_laws::{intervals_hold_exact_values, more_levels_change_no_value};
 pub use walks::{Branch, BranchEnd, ForkPath, Instruction, Test};

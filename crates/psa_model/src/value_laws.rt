@@ -1,10 +1,14 @@
-//! What can be said of values and levels in general. The function does nothing: its contract is the
-//! law.
-ghost use Rattle.std.specs.Prelude.{◌≡◌, ℕ, suc, true};
+//! What can be said of values in general. The functions do nothing: their contracts are the laws.
+ghost use Rattle.std.specs.Prelude.{◌≡◌, ◌≤◌, ℕ, suc, true, List, Ok};
+ghost use Rattle.std.specs.List.{AllZip};
+ghost use Rattle.psa_number.specs.Ends.{Ends};
+ghost use Rattle.psa_number.specs.Exponential.{last_term};
+ghost use Rattle.psa_number.specs.Fraction.{Holds};
 ghost use Rattle.psa_number.specs.Scaled.{Scaled};
+ghost use Rattle.psa_model.specs.declared.expanded.Expanded.{Expanded};
 ghost use Rattle.psa_model.specs.declared.expression.Expression.{Expression};
 ghost use Rattle.psa_model.specs.declared.model.Model.{Model};
-ghost use Rattle.psa_model.specs.Values.{exact_value, interval_value, value_within};
+ghost use Rattle.psa_model.specs.Values.{exact_value, interval_value, quantities_of, value_within, values_of};
 
 /// More levels than an expression's depth change neither its exact value nor its interval, and what is
 /// within some levels is within more.
@@ -17,4 +21,16 @@ pub fn more_levels_change_no_value()
     ensures interval { (n : ℕ) (mission : Scaled) (model : Model) (e : Expression)
         → value_within n model e ≡ true
         → interval_value (suc n) mission model e ≡ interval_value n mission model e }
+{}
+
+/// The interval of an expression holds its exact value, and that of an event its exact quantity, for
+/// every number of Taylor terms from the 160th power on.
+pub fn intervals_hold_exact_values()
+    ensures value { (n terms : ℕ) → last_term ≤ terms
+        → (mission : Scaled) (model : Model) (e : Expression) (a : Ends)
+        → interval_value n mission model e ≡ Ok a → Holds a (exact_value n terms mission model e) }
+    ensures events { (terms : ℕ) → last_term ≤ terms
+        → (mission : Scaled) (expanded : Expanded) (values : List Ends)
+        → values_of mission expanded ≡ Ok values
+        → AllZip Holds values (quantities_of terms mission expanded) }
 {}
