@@ -1,1 +1,6 @@
 mod ChainLemmas
+pub mod Forms
+pub mod Entries
+pub mod Computed
+pub mod Conditions
+pub mod Modelled

@@ -5,3 +5,8 @@ pub mod Meanings
 pub mod GroupRules
 pub mod Chains
 pub mod NameFaults
+pub mod Ids
+pub mod Resolved
+pub mod Collected
+pub mod ModelOfDraft
+pub mod ExampleModels

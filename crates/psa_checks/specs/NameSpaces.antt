@@ -6,7 +6,6 @@ use Rattle.psa_model.specs.PathNames.{Text}
 use Rattle.psa_model.specs.declared.ids.Place.{Place}
 use Rattle.psa_model.specs.declared.draft.DefinitionKind.{DefinitionKind}
 use Rattle.psa_model.specs.declared.draft.DefinitionKind.TheVariants as kind
-use Rattle.psa_model.specs.declared.draft.DraftForkPath.{out-DraftForkPath}
 use Rattle.psa_checks.specs.Outlines.{Entry, Entries, ForkState}
 use Rattle.psa_checks.specs.DocumentOrder.{Position, is_before, position_of}
 
@@ -112,9 +111,9 @@ pub record Named : Type 0 where
 
 abbrev pub named_state : ForkState → Named
 named_state one = record {
-  position = ((out-DraftForkPath one.path).place.file, (out-DraftForkPath one.path).tag);
-  place = (out-DraftForkPath one.path).place;
-  name = (out-DraftForkPath one.path).state;
+  position = (one.path.place.file, one.path.tag);
+  place = one.path.place;
+  name = one.path.state;
   spaces = states_of_fork (one.fork.place.file, one.fork.tag) ∷ [];
 }
 

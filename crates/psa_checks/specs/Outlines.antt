@@ -22,8 +22,8 @@ use Rattle.psa_model.specs.declared.draft.DraftTest.TheFolds.{fold-DraftTest}
 use Rattle.psa_model.specs.declared.draft.DraftInstruction.{DraftInstruction}
 use Rattle.psa_model.specs.declared.draft.DraftInstruction.TheOpen.{DraftInstruction-F}
 use Rattle.psa_model.specs.declared.draft.DraftInstruction.TheFolds.{fold-DraftInstruction}
-use Rattle.psa_model.specs.declared.draft.DraftBranch.{DraftBranch, out-DraftBranch}
-use Rattle.psa_model.specs.declared.draft.DraftForkPath.{DraftForkPath, out-DraftForkPath}
+use Rattle.psa_model.specs.declared.draft.DraftBranch.{DraftBranch}
+use Rattle.psa_model.specs.declared.draft.DraftForkPath.{DraftForkPath}
 use Rattle.psa_model.specs.declared.draft.DraftBranchEnd.{DraftBranchEnd, out-DraftBranchEnd}
 use Rattle.psa_model.specs.declared.draft.DraftBranchEnd.TheOpen.{DraftBranchEnd-F}
 use Rattle.psa_model.specs.declared.draft.DraftGroup.{DraftGroup}
@@ -104,15 +104,15 @@ instruction_outline = fold-DraftInstruction Outline instruction_layer
 -- and forks hold branches.
 abbrev pub end_outline : (DraftBranch → List Outline) → DraftBranchEnd-F DraftBranchEnd DraftBranch DraftForkPath → Outline
 end_outline below (DraftBranchEnd-F.Fork name paths) =
-    naming functional_event name (map (λ path. plain (below (out-DraftForkPath path).branch)) paths)
+    naming functional_event name (map (λ path. plain (below path.branch)) paths)
 end_outline below (DraftBranchEnd-F.Sequence name) = naming sequence name []
 end_outline below (DraftBranchEnd-F.Branch name) = naming branch name []
 
 unfoldable pub branch_outlines : ℕ → DraftBranch → List Outline
 branch_outlines zero one = []
 branch_outlines (suc levels) one =
-    map instruction_outline (out-DraftBranch one).instructions
-    ++ end_outline (λ below. branch_outlines levels below) (out-DraftBranchEnd (out-DraftBranch one).end) ∷ []
+    map instruction_outline one.instructions
+    ++ end_outline (λ below. branch_outlines levels below) (out-DraftBranchEnd one.end) ∷ []
 
 abbrev pub link_outlines : Option DraftReference → List Outline
 link_outlines None = []
@@ -154,14 +154,14 @@ pub record ForkState : Type 0 where
 
 abbrev pub end_states : (DraftBranch → List ForkState) → DraftBranchEnd-F DraftBranchEnd DraftBranch DraftForkPath → List ForkState
 end_states below (DraftBranchEnd-F.Fork name paths) =
-    flat_map (λ path. record { fork = name; path = path } ∷ below (out-DraftForkPath path).branch) paths
+    flat_map (λ path. record { fork = name; path = path } ∷ below path.branch) paths
 end_states below (DraftBranchEnd-F.Sequence name) = []
 end_states below (DraftBranchEnd-F.Branch name) = []
 
 unfoldable pub branch_states : ℕ → DraftBranch → List ForkState
 branch_states zero one = []
 branch_states (suc levels) one =
-    end_states (λ below. branch_states levels below) (out-DraftBranchEnd (out-DraftBranch one).end)
+    end_states (λ below. branch_states levels below) (out-DraftBranchEnd one.end)
 
 abbrev pub states_of : DraftBody → List ForkState
 states_of (body.Walk one) = branch_states MAX_NESTING one

@@ -1,6 +1,7 @@
 //! Laws of chains and depths, each the contract of a function that does nothing.
 ghost use Rattle.std.specs.Prelude.{◌≡◌, ◌≤◌, ℕ, suc, true};
 ghost use Rattle.psa_checks.specs.Chains.{Chain, is_within, leads};
+ghost use Rattle.psa_checks.specs.ModelOfDraft.{model_of};
 ghost use Rattle.psa_checks.specs.NameFaults.{name_fault};
 ghost use Rattle.psa_checks.specs.Outlines.{Entries, Entry, Outline};
 

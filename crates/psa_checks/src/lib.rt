@@ -2,8 +2,14 @@
 //! So far definitions in specs/, laws and worked examples.
 #![tactic(auto)]
 
+mod examples;
 mod laws;
 mod limits;
 
+pub use examples::{
+    a_condition_names_a_functional_event, a_cycle_leads_over_two_files,
+    a_gate_is_defined_elsewhere, a_group_defines_its_members, components_are_private,
+    the_innermost_container_is_searched_first, the_model_of_a_condition,
+};
 pub use laws::{leads_is_a_chain, more_levels_change_nothing};
 pub use limits::{MAX_MEMBERS, MAX_NESTING, MIN_MEMBERS};

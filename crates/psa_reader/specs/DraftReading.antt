@@ -40,9 +40,9 @@ use Rattle.psa_model.specs.declared.draft.DraftInstruction.{DraftInstruction}
 use Rattle.psa_model.specs.declared.draft.DraftInstruction.TheVariants as instruction
 use Rattle.psa_model.specs.declared.draft.DraftTest.{DraftTest}
 use Rattle.psa_model.specs.declared.draft.DraftTest.TheVariants as condition
-use Rattle.psa_model.specs.declared.draft.DraftBranch.{DraftBranch, roll-DraftBranch}
+use Rattle.psa_model.specs.declared.draft.DraftBranch.{DraftBranch}
 use Rattle.psa_model.specs.declared.draft.DraftBranchEnd.{DraftBranchEnd}
-use Rattle.psa_model.specs.declared.draft.DraftForkPath.{DraftForkPath, roll-DraftForkPath}
+use Rattle.psa_model.specs.declared.draft.DraftForkPath.{DraftForkPath}
 use Rattle.psa_model.specs.declared.draft.DraftBranchEnd.TheVariants as ends
 use Rattle.psa_model.specs.PathNames.{Text}
 use Rattle.psa_reader.specs.ElementTable.{Row, opsa_mef, define_fault_tree, define_component, model_data, define_gate, define_basic_event, define_house_event, define_parameter, public_basic_event, public_house_event, public_parameter, define_group, members, distribution, factors, factor, define_initiating_event, define_event_tree, define_functional_event, define_sequence, define_branch, define_rule, initial_state, fork, path, to_sequence, to_branch, to_event_tree, collect_formula, set_house_event, block, rule, if_instruction, test_initiating_event, test_functional_event, all_tests, any_test, not_test, gate, basic_event, house_event, event, constant, connective, float, int, parameter, mission_time, operator, row_inside}
@@ -235,10 +235,10 @@ abbrev pub before_others : DraftDefinition → List Reading → Reading
 before_others one inside = some_definitions (one ∷ definitions_in inside)
 
 abbrev pub branch_in : StartTag → List Reading → DraftBranch
-branch_in start inside = roll-DraftBranch (record {
+branch_in start inside = record {
   instructions = instructions_in inside;
   end = first_in end_of (ends.Sequence (reference start)) inside;
-})
+}
 
 abbrev pub group_in : StartTag → List Reading → DraftGroup
 group_in start inside = record {
@@ -303,12 +303,12 @@ reading_of define_branch start inside = alone (defines kind.Branch start (body.W
 reading_of define_rule start inside = alone (defines kind.Rule start (body.Steps (instructions_in inside) None))
 reading_of initial_state start inside = an_initial_state (branch_in start inside)
 reading_of fork start inside = an_end (ends.Fork (reference_by (codes "functional-event") start) (filter_map path_of inside))
-reading_of path start inside = a_path (roll-DraftForkPath (record {
+reading_of path start inside = a_path (record {
   state = text_in start (codes "state");
   place = place_of start;
   tag = start.number;
   branch = branch_in start inside;
-}))
+})
 reading_of to_sequence start inside = an_end (ends.Sequence (reference start))
 reading_of to_branch start inside = an_end (ends.Branch (reference start))
 reading_of to_event_tree start inside = a_link (reference start)

@@ -1,5 +1,5 @@
 -- Worked models, as trees.
-use Rattle.std.specs.Prelude.{ℕ, List, [], ◌∷◌, codes}
+use Rattle.std.specs.Prelude.{ℕ, ◌+◌, List, [], ◌∷◌, map, codes}
 use Rattle.psa_text.specs.declared.tree.Element.{Element}
 use Rattle.psa_text.specs.declared.tree.Element.TheViews.{roll-Element}
 use Rattle.psa_text.specs.declared.tree.Attribute.{Attribute}
@@ -87,3 +87,69 @@ conditional_of instructions =
 
 abbrev pub a_block : Element
 a_block = el (codes "block") 5 [] []
+
+abbrev pub float : ℕ → Text → Element
+float line value = el (codes "float") line (attr (codes "value") value ∷ []) []
+
+abbrev pub gate_of_events : ℕ → Text → Text → List Text → Element
+gate_of_events line name operator events =
+    el (codes "define-gate") line (named name)
+    (el operator line [] (map (λ one. ref (codes "basic-event") line one) events) ∷ [])
+
+-- a gate over three basic events that only a group defines
+abbrev pub group_tree : Element
+group_tree =
+    root_of (fault_tree (codes "F")
+    (gate_of_events 3 (codes "top") (codes "and") (codes "A" ∷ codes "B" ∷ codes "C" ∷ [])
+    ∷ el (codes "define-CCF-group") 4 (attr (codes "name") (codes "G") ∷ attr (codes "model") (codes "MGL") ∷ [])
+    (el (codes "members") 5 [] (map (λ one. ref (codes "basic-event") 5 one) (codes "A" ∷ codes "B" ∷ codes "C" ∷ []))
+    ∷ el (codes "distribution") 6 [] (float 6 (codes "0.1") ∷ [])
+    ∷ el (codes "factors") 7 []
+    (el (codes "factor") 7 (attr (codes "level") (codes "2") ∷ []) (float 7 (codes "0.2") ∷ [])
+    ∷ el (codes "factor") 7 (attr (codes "level") (codes "3") ∷ []) (float 7 (codes "0.5") ∷ []) ∷ []) ∷ []) ∷ []) ∷ [])
+
+-- a private component with a gate over x and s, and an event of this name
+abbrev pub component : ℕ → Text → Text → Element
+component line name event =
+    el (codes "define-component") line (attr (codes "name") name ∷ attr (codes "role") (codes "private") ∷ [])
+    (gate_of_events (line + 1) (codes "g") (codes "and") (codes "x" ∷ codes "s" ∷ [])
+    ∷ ref (codes "define-basic-event") (line + 2) event ∷ [])
+
+-- two private components, by this path of the first one's gate and this name of the second one's event
+abbrev pub component_tree : Text → Text → Element
+component_tree first second =
+    root_of (fault_tree (codes "F")
+    (el (codes "define-gate") 3 (named (codes "top"))
+    (el (codes "or") 3 [] (ref (codes "gate") 3 first ∷ ref (codes "gate") 3 (codes "F.Q.g") ∷ []) ∷ [])
+    ∷ component 4 (codes "P") (codes "x") ∷ component 8 (codes "Q") second
+    ∷ ref (codes "define-basic-event") 12 (codes "s") ∷ []) ∷ [])
+
+abbrev pub initiating : ℕ → Text → Element
+initiating line name =
+    el (codes "define-initiating-event") line (attr (codes "name") name ∷ attr (codes "event-tree") (codes "E") ∷ []) []
+
+abbrev pub path_to_sequence : Text → Element
+path_to_sequence state =
+    el (codes "path") 7 (attr (codes "state") state ∷ []) (ref (codes "sequence") 7 (codes "S") ∷ [])
+
+abbrev pub collect : Text → Element
+collect name = el (codes "collect-formula") 9 [] (ref (codes "basic-event") 9 name ∷ [])
+
+-- two initiating events that share an event tree, with a rule that tests the functional event of this name
+abbrev pub condition_tree : Text → Element
+condition_tree tested =
+    root_of (initiating 2 (codes "I") ∷ initiating 3 (codes "J")
+    ∷ el (codes "define-event-tree") 4 (named (codes "E"))
+    (ref (codes "define-functional-event") 5 (codes "FA")
+    ∷ el (codes "define-sequence") 6 (named (codes "S")) (ref (codes "rule") 6 (codes "R") ∷ [])
+    ∷ el (codes "initial-state") 7 []
+    (el (codes "fork") 7 (attr (codes "functional-event") (codes "FA") ∷ [])
+    (path_to_sequence (codes "up") ∷ path_to_sequence (codes "down") ∷ []) ∷ []) ∷ [])
+    ∷ el (codes "define-rule") 9 (named (codes "R"))
+    (el (codes "if") 9 []
+    (el (codes "and") 9 []
+    (ref (codes "test-initiating-event") 9 (codes "I")
+    ∷ el (codes "test-functional-event") 9 (attr (codes "name") tested ∷ attr (codes "state") (codes "down") ∷ []) [] ∷ [])
+    ∷ collect (codes "a") ∷ collect (codes "b") ∷ []) ∷ [])
+    ∷ el (codes "model-data") 10 []
+    (ref (codes "define-basic-event") 10 (codes "a") ∷ ref (codes "define-basic-event") 10 (codes "b") ∷ []) ∷ [])

@@ -1,8 +1,9 @@
 //! Worked examples of shape and draft, each the contract of a function that does nothing.
-ghost use Rattle.std.specs.Prelude.{◌≡◌, [], ◌∷◌, Some, None, codes, length, map};
+ghost use Rattle.std.specs.Prelude.{◌≡◌, [], ◌∷◌, Some, None, codes};
+ghost use Rattle.psa_model.specs.ExampleDrafts.{component_draft, condition_draft, group_draft, one_gate_draft};
 ghost use Rattle.psa_model.specs.declared.fault.FaultKind.TheVariants.{UnknownElement, BadAttribute, BadName, BadShape};
 ghost use Rattle.psa_reader.specs.DraftReading.{draft_of};
-ghost use Rattle.psa_reader.specs.ExampleTrees.{stray_if, atleast_of, one_gate, private_event, repeated_name, dotted_name, unnamed_group, bad_child, refers_to, conditional_of, a_block};
+ghost use Rattle.psa_reader.specs.ExampleTrees.{stray_if, atleast_of, one_gate, group_tree, component_tree, condition_tree, private_event, repeated_name, dotted_name, unnamed_group, bad_child, refers_to, conditional_of, a_block};
 ghost use Rattle.psa_reader.specs.ShapeFaults.{shape_fault};
 
 /// An `if` stands in event trees and rules alone.
@@ -41,9 +42,26 @@ pub fn conditionals_have_one_or_two_instructions()
     ensures three { shape_fault (conditional_of (a_block ∷ a_block ∷ a_block ∷ []) ∷ []) ≡ Some (record { kind = BadShape; file = 0; line = 3; name = codes "if" }) }
 {}
 
-/// The model with one gate has its shape and defines a fault tree, a gate and a basic event.
+/// A fault tree with one gate and one basic event.
 pub fn one_gate_has_three_definitions()
     ensures shape { shape_fault (one_gate ∷ []) ≡ None }
-    ensures names { map (λ one. one.name) (draft_of (one_gate ∷ [])).definitions ≡ codes "F" ∷ codes "G1" ∷ codes "a" ∷ [] }
-    ensures numbers { map (λ one. one.tag) (draft_of (one_gate ∷ [])).definitions ≡ 1 ∷ 2 ∷ 6 ∷ [] }
+    ensures draft { draft_of (one_gate ∷ []) ≡ one_gate_draft }
+{}
+
+/// A group with its members, its distribution and its factors.
+pub fn a_group_has_members_and_factors()
+    ensures shape { shape_fault (group_tree ∷ []) ≡ None }
+    ensures draft { draft_of (group_tree ∷ []) ≡ group_draft }
+{}
+
+/// What stands in a private component is private, and its container has the names around it.
+pub fn components_have_containers()
+    ensures shape { shape_fault (component_tree (codes "F.P.g") (codes "x") ∷ []) ≡ None }
+    ensures draft { draft_of (component_tree (codes "F.P.g") (codes "x") ∷ []) ≡ component_draft (codes "F.P.g") (codes "x") }
+{}
+
+/// Event trees, forks, rules and conditions.
+pub fn event_trees_hold_forks()
+    ensures shape { shape_fault (condition_tree (codes "FA") ∷ []) ≡ None }
+    ensures draft { draft_of (condition_tree (codes "FA") ∷ []) ≡ condition_draft (codes "FA") }
 {}

@@ -7,8 +7,5 @@ use Rattle.psa_reader.proofs.examples.one_gate_has_three_definitions.Goals as go
 pub returns-clause-shape : goal.returns-clause-shape
 returns-clause-shape c = simp (fold-roll-Element ElementFaults (faults_layer 0)) refl
 
-pub returns-clause-names : goal.returns-clause-names
-returns-clause-names c = simp (fold-roll-Element ElementReading reading_layer) refl
-
-pub returns-clause-numbers : goal.returns-clause-numbers
-returns-clause-numbers c = simp (fold-roll-Element ElementReading reading_layer) refl
+pub returns-clause-draft : goal.returns-clause-draft
+returns-clause-draft c = simp (fold-roll-Element ElementReading reading_layer) refl
