@@ -10,7 +10,6 @@ use Rattle.psa_model.specs.declared.walks.BranchEnd.TheVariants as end
 use Rattle.psa_model.specs.declared.draft.DefinitionKind.TheVariants as kind
 use Rattle.psa_model.specs.declared.draft.DraftBody.{DraftBody}
 use Rattle.psa_model.specs.declared.draft.DraftBody.TheVariants as body
-use Rattle.psa_model.specs.declared.draft.DraftReference.{DraftReference}
 use Rattle.psa_model.specs.declared.draft.EventKind.TheVariants as asked
 use Rattle.psa_model.specs.declared.draft.DraftFormula.{DraftFormula}
 use Rattle.psa_model.specs.declared.draft.DraftInstruction.{DraftInstruction}
@@ -20,9 +19,9 @@ use Rattle.psa_model.specs.declared.draft.DraftBranch.{DraftBranch}
 use Rattle.psa_model.specs.declared.draft.DraftForkPath.{DraftForkPath}
 use Rattle.psa_model.specs.declared.draft.DraftBranchEnd.{DraftBranchEnd, out-DraftBranchEnd}
 use Rattle.psa_model.specs.declared.draft.DraftBranchEnd.TheOpen.{DraftBranchEnd-F}
-use Rattle.psa_checks.specs.declared.limits.TheConstants.{MAX_NESTING}
-use Rattle.psa_checks.specs.Outlines.{event, rule, sequence, branch, functional_event, is_event_tree, Entry, Entries}
-use Rattle.psa_checks.specs.DocumentOrder.{Position, is_before, position_of}
+use Rattle.psa_model.specs.declared.limits.TheConstants.{MAX_NESTING}
+use Rattle.psa_checks.specs.Outlines.{event, rule, sequence, branch, functional_event, Entry, Entries}
+use Rattle.psa_model.specs.Drafts.{Position, is_event_tree, position_of, reference_position, stands_before}
 use Rattle.psa_checks.specs.Ids.{referred_id}
 use Rattle.psa_checks.specs.Resolved.{resolved_test}
 
@@ -56,25 +55,27 @@ collected_in _ = []
 
 -- ---- document order of contents
 
-abbrev pub end_reference : DraftBranchEnd-F DraftBranchEnd DraftBranch DraftForkPath → DraftReference
-end_reference (DraftBranchEnd-F.Fork name paths) = name
-end_reference (DraftBranchEnd-F.Sequence name) = name
-end_reference (DraftBranchEnd-F.Branch name) = name
+-- the position of the element that ends a branch
+abbrev pub end_position : DraftBranchEnd-F DraftBranchEnd DraftBranch DraftForkPath → Position
+end_position (DraftBranchEnd-F.Fork name paths) = reference_position name
+end_position (DraftBranchEnd-F.Sequence name) = reference_position name
+end_position (DraftBranchEnd-F.Branch name) = reference_position name
 
 -- Where the contents of a definition stand. An event tree's initial state may stand behind definitions inside the tree; a
--- draft has no place of it, but the reference of its end is inside it.
+-- draft has no position of it, but its end stands in it.
 abbrev pub contents_position : Entry → Position
-contents_position one = if is_event_tree one.kind then of_body one.body else position_of one
+contents_position one = if is_event_tree one.kind then of_body one.body else position_of one.definition
   where
     of_body : DraftBody → Position
-    of_body (body.Walk start) = (one.place.file, (end_reference (out-DraftBranchEnd start.end)).tag)
-    of_body _ = (one.place.file, one.tag)
+    of_body (body.Walk start) = end_position (out-DraftBranchEnd start.end)
+    of_body _ = position_of one.definition
 
 -- contents at one position stand in the order of their definitions
 abbrev pub contents_before : Entry → Entry → Bool
 contents_before one other =
-    is_before (contents_position one) (contents_position other)
-    || (not (is_before (contents_position other) (contents_position one)) && is_before (position_of one) (position_of other))
+    stands_before (contents_position one) (contents_position other)
+    || (not (stands_before (contents_position other) (contents_position one))
+    && stands_before (position_of one.definition) (position_of other.definition))
 
 abbrev pub placed : Entry → List Entry → List Entry
 placed one [] = one ∷ []

@@ -1,17 +1,18 @@
 -- What a common cause group may be. (The models are those of the Open-PSA Model Exchange Format 2.0d; the numbers of
 -- members and the levels are this project's own.)
-use Rattle.std.specs.Prelude.{◌==◌, ℕ, suc, ◌-◌, Bool, true, false, List, [], ◌∷◌, Option, Some, None, map, length, nat_le, count_by, slice_get, ◌&&◌, ◌||◌, not}
-use Rattle.std.specs.List.{list_all, list_any, range_with_len}
-use Rattle.std.specs.Option.{option_map_or}
+use Rattle.std.specs.Prelude.{◌==◌, ℕ, Bool, true, false, List, [], ◌∷◌, Option, Some, None, map, length, nat_le, count_by, slice_get, ◌&&◌, ◌||◌, not}
+use Rattle.std.specs.List.{list_all, list_any}
+use Rattle.std.specs.Option.{option_map_or, unwrap_or}
 use Rattle.std.specs.Str.{bytes_eq}
+use Rattle.psa_model.specs.Models.{levels_of}
 use Rattle.psa_model.specs.declared.model.GroupModel.{GroupModel}
-use Rattle.psa_model.specs.declared.model.GroupModel.TheVariants.{Beta, Mgl, Alpha}
+use Rattle.psa_model.specs.declared.model.GroupModel.TheVariants.{Beta}
 use Rattle.psa_model.specs.declared.draft.DefinitionKind.{DefinitionKind}
 use Rattle.psa_model.specs.declared.draft.DefinitionKind.TheVariants as kind
 use Rattle.psa_model.specs.declared.draft.DraftBody.{DraftBody}
 use Rattle.psa_model.specs.declared.draft.DraftBody.TheVariants as body
 use Rattle.psa_model.specs.declared.draft.DraftFactor.{DraftFactor}
-use Rattle.psa_checks.specs.declared.limits.TheConstants.{MIN_MEMBERS, MAX_MEMBERS}
+use Rattle.psa_model.specs.declared.limits.TheConstants.{MIN_MEMBERS, MAX_MEMBERS}
 use Rattle.psa_checks.specs.Outlines.{Entry, Entries}
 use Rattle.psa_checks.specs.Meanings.{Meaning, definition, of_group, members_of, meaning_of_event}
 
@@ -52,24 +53,19 @@ have_one_in_common ones others = list_any (λ one. list_any (same_meaning one) o
 
 -- ---- levels
 
-abbrev pub has_level : ℕ → DraftFactor → Bool
-has_level level factor = option_map_or (λ its. its == level) factor.level false
+-- the level of a factor; in a group of the model beta-factor it may be left out, and is then the number of members
+abbrev pub level_in : GroupModel → ℕ → DraftFactor → Option ℕ
+level_in Beta members factor = Some (unwrap_or factor.level members)
+level_in _ members factor = factor.level
 
--- each level from one to another has one factor, and there is no other factor
-abbrev pub has_each_once : ℕ → ℕ → List DraftFactor → Bool
-has_each_once first last factors =
-    (length factors == suc last - first)
-    && list_all (λ level. count_by (has_level level) factors == 1) (range_with_len first (suc last - first))
+abbrev pub has_level : GroupModel → ℕ → ℕ → DraftFactor → Bool
+has_level model members level factor = option_map_or (λ its. its == level) (level_in model members factor) false
 
--- the one factor of a beta-factor group may leave out its level
-abbrev pub is_beta_factor : ℕ → List DraftFactor → Bool
-is_beta_factor members (factor ∷ []) = option_map_or (λ its. its == members) factor.level true
-is_beta_factor members _ = false
-
+-- each level of the model has one factor, and there is no other factor
 abbrev pub has_levels : GroupModel → ℕ → List DraftFactor → Bool
-has_levels Beta members factors = is_beta_factor members factors
-has_levels Mgl members factors = has_each_once 2 members factors
-has_levels Alpha members factors = has_each_once 1 members factors
+has_levels model members factors =
+    (length factors == length (levels_of model members))
+    && list_all (λ level. count_by (has_level model members level) factors == 1) (levels_of model members)
 
 abbrev pub body_has_levels : DraftBody → Bool
 body_has_levels (body.Group group) = has_levels group.model (length group.members) group.factors

@@ -1,5 +1,5 @@
 pub mod Outlines
-pub mod DocumentOrder
+pub mod PlacedFaults
 pub mod NameSpaces
 pub mod Meanings
 pub mod GroupRules

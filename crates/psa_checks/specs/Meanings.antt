@@ -3,12 +3,13 @@ use Rattle.std.specs.Prelude.{ℕ, Bool, List, [], ◌∷◌, ◌++◌, Option, 
 use Rattle.std.specs.List.{list_any, last_or}
 use Rattle.std.specs.Option.{option_map, option_or, unwrap_or}
 use Rattle.std.specs.Str.{bytes_eq}
+use Rattle.psa_model.specs.Drafts.{same_texts}
 use Rattle.psa_model.specs.PathNames.{Text, name_parts, is_path}
 use Rattle.psa_model.specs.declared.draft.DraftBody.{DraftBody}
 use Rattle.psa_model.specs.declared.draft.DraftBody.TheVariants as body
 use Rattle.psa_model.specs.declared.draft.DraftReference.{DraftReference}
 use Rattle.psa_checks.specs.Outlines.{ReferenceKind, event, parameter, event_tree, rule, sequence, branch, functional_event, initiating_event, functional_event_anywhere, Reference, Entry, Entries}
-use Rattle.psa_checks.specs.NameSpaces.{Family, events, parameters, groups, event_trees, initiating_events, functional_events, sequences, branches, rules, family_of, is_in_family, is_scoped, same_texts}
+use Rattle.psa_checks.specs.NameSpaces.{Family, events, parameters, groups, event_trees, initiating_events, functional_events, sequences, branches, rules, family_of, is_in_family, is_scoped}
 
 -- ---- the search among definitions
 

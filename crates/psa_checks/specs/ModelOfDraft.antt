@@ -26,7 +26,7 @@ use Rattle.psa_model.specs.declared.draft.DraftBody.TheVariants as body
 use Rattle.psa_model.specs.declared.draft.DraftReference.{DraftReference}
 use Rattle.psa_model.specs.declared.draft.DraftFactor.{DraftFactor}
 use Rattle.psa_model.specs.declared.draft.DraftInstruction.{DraftInstruction}
-use Rattle.psa_checks.specs.declared.limits.TheConstants.{MAX_NESTING, MAX_MEMBERS}
+use Rattle.psa_model.specs.declared.limits.TheConstants.{MAX_NESTING, MAX_MEMBERS}
 use Rattle.psa_checks.specs.Outlines.{event_tree, Entry, Entries, entries_of}
 use Rattle.psa_checks.specs.NameSpaces.{family_of, is_scoped}
 use Rattle.psa_checks.specs.Meanings.{definition, members_of, defined_by_group, meaning_of_event}

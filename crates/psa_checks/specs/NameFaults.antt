@@ -4,6 +4,7 @@
 use Rattle.std.specs.Prelude.{Bool, true, false, List, Option, Some, None, map, length, slice_get, take, filter, filter_map, flat_map, ◌&&◌, not, if◌then◌else◌}
 use Rattle.std.specs.List.{list_any, enumerate_from}
 use Rattle.std.specs.Option.{option_map, option_map_or}
+use Rattle.psa_model.specs.Drafts.{reference_position}
 use Rattle.psa_model.specs.declared.fault.FaultKind.{FaultKind}
 use Rattle.psa_model.specs.declared.fault.FaultKind.TheVariants as fault
 use Rattle.psa_model.specs.declared.fault.ModelFault.{ModelFault}
@@ -14,7 +15,7 @@ use Rattle.psa_model.specs.declared.draft.DefinitionKind.TheVariants as kind
 use Rattle.psa_model.specs.declared.draft.EventKind.{EventKind}
 use Rattle.psa_model.specs.declared.draft.EventKind.TheVariants as asked
 use Rattle.psa_checks.specs.Outlines.{ReferenceKind, event, Reference, Entry, Entries, entries_of}
-use Rattle.psa_checks.specs.DocumentOrder.{PlacedFault, fault_at, fault_of, earliest}
+use Rattle.psa_checks.specs.PlacedFaults.{PlacedFault, fault_at, fault_of, earliest}
 use Rattle.psa_checks.specs.NameSpaces.{groups, is_in_family, all_named, repeats}
 use Rattle.psa_checks.specs.Meanings.{Meaning, definition, of_group, meaning_of}
 use Rattle.psa_checks.specs.GroupRules.{is_allowed_group}
@@ -53,7 +54,7 @@ reference_fault entries its (Some meaning) = if means_kind entries its meaning t
 abbrev pub fault_of_reference : Entries → Entry → Reference → Option PlacedFault
 fault_of_reference entries from reference =
     option_map
-    (λ its. fault_at its (reference.written.place.file, reference.written.tag) reference.written.place reference.written.name)
+    (λ its. fault_at its (reference_position reference.written) reference.written.place reference.written.name)
     (reference_fault entries reference.kind (meaning_of entries from reference))
 
 abbrev pub bad_references : Entries → List PlacedFault

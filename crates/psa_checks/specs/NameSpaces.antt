@@ -2,17 +2,12 @@
 use Rattle.std.specs.Prelude.{◌==◌, ℕ, Bool, true, false, List, [], ◌∷◌, ◌++◌, map, flat_map, ◌&&◌, if◌then◌else◌}
 use Rattle.std.specs.List.{list_any}
 use Rattle.std.specs.Str.{bytes_eq}
+use Rattle.psa_model.specs.Drafts.{Position, position_of, reference_position, path_position, stands_before, same_position, same_texts}
 use Rattle.psa_model.specs.PathNames.{Text}
 use Rattle.psa_model.specs.declared.ids.Place.{Place}
 use Rattle.psa_model.specs.declared.draft.DefinitionKind.{DefinitionKind}
 use Rattle.psa_model.specs.declared.draft.DefinitionKind.TheVariants as kind
 use Rattle.psa_checks.specs.Outlines.{Entry, Entries, ForkState}
-use Rattle.psa_checks.specs.DocumentOrder.{Position, is_before, position_of}
-
-abbrev pub same_texts : List Text → List Text → Bool
-same_texts [] [] = true
-same_texts (x ∷ xs) (y ∷ ys) = bytes_eq x y && same_texts xs ys
-same_texts _ _ = false
 
 -- a family of definitions that share name spaces; gates, basic events and house events are one
 pub data Family : Type 0 where
@@ -66,8 +61,7 @@ abbrev pub same_space : Space → Space → Bool
 same_space (whole_model family) (whole_model other) = same_family family other
 same_space (directly_in family around) (directly_in other around_other) =
     same_family family other && same_texts around around_other
-same_space (states_of_fork position) (states_of_fork other) =
-    (position.0 == other.0) && (position.1 == other.1)
+same_space (states_of_fork position) (states_of_fork other) = same_position position other
 same_space _ _ = false
 
 -- events and parameters may be private, and are searched in containers
@@ -111,15 +105,15 @@ pub record Named : Type 0 where
 
 abbrev pub named_state : ForkState → Named
 named_state one = record {
-  position = (one.path.place.file, one.path.tag);
+  position = path_position one.path;
   place = one.path.place;
   name = one.path.state;
-  spaces = states_of_fork (one.fork.place.file, one.fork.tag) ∷ [];
+  spaces = states_of_fork (reference_position one.fork) ∷ [];
 }
 
 abbrev pub named_in : Entry → List Named
 named_in one =
-    record { position = position_of one; place = one.place; name = one.name; spaces = spaces_of one }
+    record { position = position_of one.definition; place = one.place; name = one.name; spaces = spaces_of one }
     ∷ map named_state one.states
 
 abbrev pub all_named : Entries → List Named
@@ -130,4 +124,4 @@ share_space one other = list_any (λ space. list_any (same_space space) other.sp
 
 -- the name of one stands before it in one of its spaces, as that of the other
 abbrev pub repeats : Named → Named → Bool
-repeats one other = is_before other.position one.position && bytes_eq other.name one.name && share_space one other
+repeats one other = stands_before other.position one.position && bytes_eq other.name one.name && share_space one other

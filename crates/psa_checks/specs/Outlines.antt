@@ -1,8 +1,6 @@
 -- The outlines of a definition: the elements in it, each with the name by which it refers to another definition, if
 -- any. The checks of references, cycles and depths speak of outlines alone. (This project's own.)
-use Rattle.std.specs.Prelude.{ℕ, zero, suc, Bool, true, false, List, [], ◌∷◌, ◌++◌, Option, Some, None, map, flat_map, if◌then◌else◌}
-use Rattle.psa_model.specs.declared.draft.DefinitionKind.{DefinitionKind}
-use Rattle.psa_model.specs.declared.draft.DefinitionKind.TheVariants as kind
+use Rattle.std.specs.Prelude.{ℕ, zero, suc, List, [], ◌∷◌, ◌++◌, Option, Some, None, map, flat_map, if◌then◌else◌}
 use Rattle.psa_model.specs.declared.draft.DraftBody.{DraftBody}
 use Rattle.psa_model.specs.declared.draft.DraftBody.TheVariants as body
 use Rattle.psa_model.specs.declared.draft.DraftDefinition.{DraftDefinition}
@@ -27,7 +25,8 @@ use Rattle.psa_model.specs.declared.draft.DraftForkPath.{DraftForkPath}
 use Rattle.psa_model.specs.declared.draft.DraftBranchEnd.{DraftBranchEnd, out-DraftBranchEnd}
 use Rattle.psa_model.specs.declared.draft.DraftBranchEnd.TheOpen.{DraftBranchEnd-F}
 use Rattle.psa_model.specs.declared.draft.DraftGroup.{DraftGroup}
-use Rattle.psa_checks.specs.declared.limits.TheConstants.{MAX_NESTING}
+use Rattle.psa_model.specs.Drafts.{is_event_tree}
+use Rattle.psa_model.specs.declared.limits.TheConstants.{MAX_NESTING}
 
 -- what a name may stand for
 pub data ReferenceKind : Type 0 where
@@ -135,10 +134,6 @@ body_outlines (body.Group group) = group_outlines group
 body_outlines (body.Start tree) = link_outlines tree
 body_outlines (body.Steps instructions link) = map instruction_outline instructions ++ link_outlines link
 body_outlines (body.Walk one) = branch_outlines MAX_NESTING one
-
-abbrev pub is_event_tree : DefinitionKind → Bool
-is_event_tree kind.EventTree = true
-is_event_tree _ = false
 
 -- What stands in a definition. In an event tree that is its initial state, which is an element.
 abbrev pub outlines_of : DraftDefinition → List Outline

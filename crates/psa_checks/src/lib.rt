@@ -4,7 +4,6 @@
 
 mod examples;
 mod laws;
-mod limits;
 
 pub use examples::{
     a_condition_names_a_functional_event, a_cycle_leads_over_two_files,
@@ -12,4 +11,3 @@ pub use examples::{
     the_innermost_container_is_searched_first, the_model_of_a_condition,
 };
 pub use laws::{leads_is_a_chain, more_levels_change_nothing};
-pub use limits::{MAX_MEMBERS, MAX_NESTING, MIN_MEMBERS};

@@ -1,20 +1,12 @@
--- Document order, and faults with their places in it. (The order of the checks is this project's own.)
-use Rattle.std.specs.Prelude.{◌==◌, ℕ, Bool, List, [], ◌∷◌, Option, Some, None, nat_lt, ◌&&◌, ◌||◌, if◌then◌else◌}
+-- Faults with their positions in the document, and the one that stands first. (The order of the checks is this project's
+-- own.)
+use Rattle.std.specs.Prelude.{List, [], ◌∷◌, Option, Some, None, if◌then◌else◌}
+use Rattle.psa_model.specs.Drafts.{Position, position_of, stands_before}
 use Rattle.psa_model.specs.PathNames.{Text}
 use Rattle.psa_model.specs.declared.fault.FaultKind.{FaultKind}
 use Rattle.psa_model.specs.declared.fault.ModelFault.{ModelFault}
 use Rattle.psa_model.specs.declared.ids.Place.{Place}
 use Rattle.psa_checks.specs.Outlines.{Entry}
-
--- a file, and the number of an element in it
-abbrev pub Position : Type 0
-Position = ℕ × ℕ
-
-abbrev pub is_before : Position → Position → Bool
-is_before one other = nat_lt one.0 other.0 || ((one.0 == other.0) && nat_lt one.1 other.1)
-
-abbrev pub position_of : Entry → Position
-position_of one = (one.place.file, one.tag)
 
 -- a fault, and where it stands
 pub record PlacedFault : Type 0 where
@@ -27,11 +19,11 @@ fault_at kind position place name =
 
 -- a fault of a definition
 abbrev pub fault_of : FaultKind → Entry → PlacedFault
-fault_of kind one = fault_at kind (position_of one) one.place one.name
+fault_of kind one = fault_at kind (position_of one.definition) one.place one.name
 
 abbrev pub earlier : PlacedFault → Option PlacedFault → Option PlacedFault
 earlier one None = Some one
-earlier one (Some other) = if is_before other.position one.position then Some other else Some one
+earlier one (Some other) = if stands_before other.position one.position then Some other else Some one
 
 -- the fault that stands first
 abbrev pub earliest : List PlacedFault → Option PlacedFault
