@@ -22,7 +22,8 @@ pub fn neg(a: Interval) -> Interval
 /// The interval of the sums. `TooLarge` exactly where an end is past `MAX_END` units in magnitude.
 pub fn add(a: Interval, b: Interval) -> Result<Interval, NumberFault>
     ensures exact { result ≡ limited_ends (sum_ends a b) }
-    ensures bracket { IfOk result (λ r. (x y : Fraction) → Holds a x → Holds b y → Holds r (plus x y)) }
+    ensures bracket { IfOk result (λ r. (x y : Fraction)
+        → Holds a x → Holds b y → Holds r (plus x y)) }
 {
     limited(a.lo + b.lo, a.hi + b.hi)
 }
@@ -30,7 +31,8 @@ pub fn add(a: Interval, b: Interval) -> Result<Interval, NumberFault>
 /// The interval of the differences. `TooLarge` exactly where an end is past `MAX_END` units in magnitude.
 pub fn sub(a: Interval, b: Interval) -> Result<Interval, NumberFault>
     ensures exact { result ≡ limited_ends (difference_ends a b) }
-    ensures bracket { IfOk result (λ r. (x y : Fraction) → Holds a x → Holds b y → Holds r (difference x y)) }
+    ensures bracket { IfOk result (λ r. (x y : Fraction)
+        → Holds a x → Holds b y → Holds r (difference x y)) }
 {
     limited(a.lo - b.hi, a.hi - b.lo)
 }
@@ -39,7 +41,8 @@ pub fn sub(a: Interval, b: Interval) -> Result<Interval, NumberFault>
 /// units in magnitude.
 pub fn mul(a: Interval, b: Interval) -> Result<Interval, NumberFault>
     ensures exact { result ≡ limited_ends (product_ends a b) }
-    ensures bracket { IfOk result (λ r. (x y : Fraction) → Holds a x → Holds b y → Holds r (times x y)) }
+    ensures bracket { IfOk result (λ r. (x y : Fraction)
+        → Holds a x → Holds b y → Holds r (times x y)) }
 {
     let low_low = product(a.lo, b.lo);
     let low_high = product(a.lo, b.hi);
@@ -54,7 +57,8 @@ pub fn mul(a: Interval, b: Interval) -> Result<Interval, NumberFault>
 /// else `TooLarge` exactly where an end is past `MAX_END` units in magnitude.
 pub fn div(a: Interval, b: Interval) -> Result<Interval, NumberFault>
     ensures exact { result ≡ quotient_of a b }
-    ensures bracket { IfOk result (λ r. (x y : Fraction) → Holds a x → Holds b y → Holds r (quotient x y)) }
+    ensures bracket { IfOk result (λ r. (x y : Fraction)
+        → Holds a x → Holds b y → Holds r (quotient x y)) }
 {
     if b.lo <= 0 && 0 <= b.hi {
         return Err(NumberFault::ZeroDivisor);

@@ -42,7 +42,8 @@ pub fn add_in_unit(a: Interval, b: Interval) -> Interval
     requires right { IsInUnit b }
     ensures exact { result ≡ unit_sum_ends a b }
     ensures in_unit { IsInUnit result }
-    ensures bracket { (x y : Fraction) → Holds a x → Holds b y → Holds result (at_most_one (plus x y)) }
+    ensures bracket { (x y : Fraction)
+        → Holds a x → Holds b y → Holds result (at_most_one (plus x y)) }
 {
     Interval {
         lo: sum_at_most_one(a.lo, b.lo),

@@ -16,7 +16,7 @@ use std::marker::Model;
 /// A call fails whose number is in `failing`, and an open of a name that no file has; no other call
 /// fails. Each failed call, and nothing else, raises its count of faults. It allows every name, and
 /// takes no memory.
-#[derive(Debug, Drop)]
+#[derive(Drop)]
 pub struct MemoryFolder {
     texts: Items<(Text, Items<u8>)>,
     piece: usize,

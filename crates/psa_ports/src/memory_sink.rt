@@ -14,7 +14,7 @@ use std::marker::Model;
 /// Its writes are numbered from 0, and the number is held at 2^64 - 1. A write fails whose number
 /// is in `failing`, and one that finds `room` bytes taken already; no other write fails. Each failed
 /// write, and nothing else, raises its count of faults. A write takes no memory.
-#[derive(Debug, Drop)]
+#[derive(Drop)]
 pub struct MemorySink {
     bytes: Vec<u8>,
     room: usize,
@@ -95,7 +95,8 @@ impl Sink for MemorySink {
 
         ensures least { IfOk result (λ count. 0 < count) }
         ensures most { WritesAtMost result piece.now }
-        ensures bytes { WriteAppends (Some self.old.written) (Some self.new.written) result piece.now }
+        ensures bytes { WriteAppends
+            (Some self.old.written) (Some self.new.written) result piece.now }
         ensures cause { HasCause self.old.faults self.new.faults result }
 
         ensures fails { is_ok result ≡ not (refuses self.old) }

@@ -34,7 +34,8 @@ pub fn minimal_cut_sets<T: Truth>(
 ) -> Result<Items<Items<u32>>, OutOfMemory>
     requires looks_below { LooksBelow width (T.truth target.old) }
     requires narrow { width ≤ MAX_WIDTH }
-    ensures { IfOk result (λ sets. IsListing (IsCutProduct (T.truth target.old) limit) (map positive_product sets)) }
+    ensures { IfOk result (λ sets.
+        IsListing (IsCutProduct (T.truth target.old) limit) (map positive_product sets)) }
 {
     let mut search = Search {
         chosen: Items::new(alloc),
@@ -58,7 +59,9 @@ fn try_sets<T: Truth>(
     more: u32,
 ) -> Result<(), OutOfMemory>
     requires { from ≤ width }
-    ensures kept { OnOk result (search.new.kept ≡ kept_of (T.truth target.old) search.old.kept (map (λ set. search.old.chosen ++ set) (combinations from (width - from) more))) }
+    ensures kept { OnOk result (search.new.kept
+        ≡ kept_of (T.truth target.old) search.old.kept
+        (map (λ set. search.old.chosen ++ set) (combinations from (width - from) more))) }
     ensures chosen { OnOk result (search.new.chosen ≡ search.old.chosen) }
     ensures same { T.truth target.new ≡ T.truth target.old }
 {
@@ -76,7 +79,8 @@ fn try_sets<T: Truth>(
 
 /// Keeps the chosen set where the target is true at it and no kept set is a part of it.
 fn try_set<T: Truth>(alloc: Global, target: &mut T, search: &mut Search) -> Result<(), OutOfMemory>
-    ensures kept { OnOk result (search.new.kept ≡ kept_with (T.truth target.old) search.old.kept search.old.chosen) }
+    ensures kept { OnOk result (search.new.kept
+        ≡ kept_with (T.truth target.old) search.old.kept search.old.chosen) }
     ensures chosen { search.new.chosen ≡ search.old.chosen }
     ensures same { T.truth target.new ≡ T.truth target.old }
 {
