@@ -1,4 +1,5 @@
 mod ChainLemmas
+mod ShortChains
 pub mod Forms
 pub mod Entries
 pub mod Computed
