@@ -1,7 +1,7 @@
 -- A first model has few gates and few basic events.
-use Rattle.std.proofs.Common.{◌≡◌, ℕ, suc, ◌+◌, ◌≤◌, ◌^◌, Bool, true, false, cond, ◌&&◌, ◌||◌, nat_le, Option, Some, None, Result, Ok, Err, IfOk, List, [], ◌∷◌, ◌++◌, length, map, refl, sym, ap, ◌∙◌, subst, arith, option_and_then}
+use Rattle.std.proofs.Common.{◌≡◌, ℕ, suc, ◌+◌, ◌≤◌, ◌^◌, Bool, true, false, cond, ◌&&◌, ◌||◌, nat_le, Option, Some, None, Result, Ok, Err, IfOk, List, [], ◌∷◌, ◌++◌, length, map, refl, sym, ap, ◌∙◌, subst, arith, option_and_then, append-nil}
 use Rattle.std.specs.Prelude.{codes}
-use Rattle.std.specs.List.{filter, list_all}
+use Rattle.std.specs.List.{filter, flat_map, list_all}
 use Rattle.std.proofs.lemmas.Bool.Decides.{nat_tests}
 use Rattle.psa_text.specs.declared.tree.Element.{Element}
 use Rattle.psa_text.specs.declared.tree.Element.TheViews.{out-Element}
@@ -18,14 +18,17 @@ use Rattle.psa_first_reader.proofs.Collected.{length-all_some, length-all_some_m
 use Rattle.psa_logic.specs.Products.{IsCutProduct, IsListing, positive_product}
 use Rattle.psa_model.specs.declared.expanded.Expanded.{Expanded}
 use Rattle.psa_model.specs.declared.ids.EventNumber.{EventNumber}
+use Rattle.psa_model.specs.declared.settings.Mode.{Mode}
 use Rattle.psa_model.specs.declared.settings.Mode.TheVariants.{CutSets}
+use Rattle.psa_model.specs.declared.settings.Settings.{Settings}
 use Rattle.psa_model.specs.declared.targets.Target.{Target}
-use Rattle.psa_model.specs.Ranks.{AreRanks}
-use Rattle.psa_model.specs.Report.{IsSection, section_text}
-use Rattle.psa_model.specs.Targets.{truth_by_rank, target_truth}
-use Rattle.psa_plain.proofs.Lists.{by-rank-agree}
+use Rattle.psa_model.specs.Ranks.{ranks_of}
+use Rattle.psa_model.specs.Report.{IsProductIn, IsSection, bounds_of, count_line, is_kept_in, product_line, ranked_truth, section_text, target_line, total_lines}
+use Rattle.psa_model.specs.Targets.{truth_by_rank}
+use Rattle.psa_model.proofs.TargetProducts.{truth-agree}
 use Rattle.psa_subsets.specs.Blind.{LooksBelow}
-use Rattle.psa_engine.specs.FirstModel.{IsFirst, model_of}
+use Rattle.psa_engine.specs.FirstModel.{AreFirst, IsFirst, model_of, plain_analysis}
+use Rattle.psa_engine.specs.Joined.{section_without_quantities}
 use Rattle.psa_engine.proofs.Widths.{ranks-fit}
 
 -- Chains of steps, taken apart.
@@ -92,32 +95,55 @@ length-events_from place [] = refl
 length-events_from place (basic ∷ basics) = ap suc (length-events_from (place + 1) basics)
 
 -- a first model's targets have at most twelve ranks
-pub ranks-few : (expanded : Expanded) (target : Target) (ranks : List EventNumber) → IsFirst expanded → AreRanks expanded target ranks → length ranks ≤ 12
+pub ranks-few : (expanded : Expanded) (target : Target) (ranks : List EventNumber) → IsFirst expanded → ranks ≡ ranks_of expanded target → length ranks ≤ 12
 ranks-few expanded target ranks first are_ranks =
-    let fits : length ranks ≤ length expanded.events = ranks-fit expanded target ranks are_ranks in
+    let fits : length (ranks_of expanded target) ≤ length expanded.events = ranks-fit expanded target in
     let events : length expanded.events ≡ length expanded.model.basics = ap length first.plain ∙ length-events_from 0 expanded.model.basics in
-    omega (arith, fits, events, first.few_basics)
+    let same : length ranks ≡ length (ranks_of expanded target) = ap length are_ranks in
+    omega (arith, fits, events, same, first.few_basics)
 
 -- sets that agree below the number of ranks give the same truth
 pub ranks-decide : (expanded : Expanded) (target : Target) (ranks : List EventNumber) (width : ℕ) (f : (ℕ → Bool) → Bool)
     → f ≡ truth_by_rank expanded target ranks → width ≡ length ranks → LooksBelow width f
 ranks-decide expanded target ranks width f is_truth is_width =
     subst (LooksBelow width) (sym is_truth)
-    (λ s t agree. ap (target_truth expanded target) (λ i event. by-rank-agree s t ranks 0 event (λ rank below. agree rank (omega arith)) i))
+    (subst (λ w. LooksBelow w (truth_by_rank expanded target ranks)) (sym is_width) (truth-agree expanded target ranks))
+
+-- where quantities are not computed, all products are kept, and no total is asked for
+all-kept : (products : List (List ℕ)) → filter (λ product. true) products ≡ products
+all-kept [] = refl
+all-kept (product ∷ products) = ap (λ more. product ∷ more) (all-kept products)
+
+no-totals : (settings : Settings) (expanded : Expanded) (target : Target) (products : List (List ℕ)) → settings.rare_event ≡ false → settings.mcub ≡ false
+    → total_lines settings (bounds_of (plain_analysis settings expanded) target products) ≡ []
+no-totals settings expanded target products rare_event mcub = rw (rare_event, mcub) refl
+
+pub section-plain : (settings : Settings) (expanded : Expanded) (target : Target) (products : List (List ℕ)) → AreFirst settings
+    → section_text (plain_analysis settings expanded) target (filter (is_kept_in (plain_analysis settings expanded) target) products)
+    ≡ section_without_quantities expanded target (ranks_of expanded target) products
+section-plain settings expanded target products first =
+    let front : List ℕ = target_line expanded.model target ++ flat_map (product_line (plain_analysis settings expanded) target) products ++ count_line (length products) in
+    ap (section_text (plain_analysis settings expanded) target) (all-kept products)
+    ∙ ap (λ totals. front ++ totals) (no-totals settings expanded target products (ap (λ (s : Settings). s.rare_event) first.1) (ap (λ (s : Settings). s.mcub) first.1))
+    ∙ append-nil front
 
 -- the section of a target over what was found
-pub section-found : (expanded : Expanded) (target : Target) (ranks : List EventNumber) (f : (ℕ → Bool) → Bool) (sets : List (List ℕ)) (text : List ℕ)
-    → AreRanks expanded target ranks → f ≡ truth_by_rank expanded target ranks
-    → IsListing (IsCutProduct f 20) (map positive_product sets)
-    → text ≡ section_text expanded target ranks (map positive_product sets)
-    → IsSection expanded CutSets 20 target text
-section-found expanded target ranks f sets text are_ranks is_truth listing spelled = record {
-  ranks = ranks;
-  products = map positive_product sets;
-  are_ranks = are_ranks;
-  listing = subst (λ (g : (ℕ → Bool) → Bool). IsListing (IsCutProduct g 20) (map positive_product sets)) is_truth listing;
-  spelled = spelled;
-}
+pub section-found : (settings : Settings) (expanded : Expanded) (target : Target) (ranks : List EventNumber) (f : (ℕ → Bool) → Bool) (sets : List (List ℕ)) (text : List ℕ)
+    → AreFirst settings → ranks ≡ ranks_of expanded target → f ≡ truth_by_rank expanded target ranks
+    → IsListing (IsCutProduct f settings.limit_order) (map positive_product sets)
+    → text ≡ section_without_quantities expanded target ranks (map positive_product sets)
+    → IsSection (plain_analysis settings expanded) target text
+section-found settings expanded target ranks f sets text first are_ranks is_truth listing spelled =
+    let is_ranked : f ≡ ranked_truth expanded target = is_truth ∙ ap (truth_by_rank expanded target) are_ranks in
+    let cut_sets : settings.mode ≡ CutSets = ap (λ (s : Settings). s.mode) first.1 in
+    record {
+      products = map positive_product sets;
+      listing = subst (λ (mode : Mode). IsListing (IsProductIn mode (ranked_truth expanded target) settings.limit_order) (map positive_product sets)) (sym cut_sets)
+          (subst (λ (g : (ℕ → Bool) → Bool). IsListing (IsCutProduct g settings.limit_order) (map positive_product sets)) is_ranked listing);
+      spelled = spelled
+          ∙ ap (λ (some : List EventNumber). section_without_quantities expanded target some (map positive_product sets)) are_ranks
+          ∙ sym (section-plain settings expanded target (map positive_product sets) first);
+    }
 
 pub IfOk-then : {T E : Type 0} (P Q : T → Type 0) (result : Result T E) → ((x : T) → P x → Q x) → IfOk result P → IfOk result Q
 IfOk-then P Q (Ok x) f holds = f x holds

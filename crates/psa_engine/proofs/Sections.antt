@@ -10,18 +10,18 @@ use Rattle.std.proofs.lemmas.List.Elements.{All-from_recursion}
 use Rattle.psa_model.specs.declared.expanded.Expanded.{Expanded}
 use Rattle.psa_model.specs.declared.model.Model.{Model}
 use Rattle.psa_model.specs.declared.model.Gate.{Gate}
-use Rattle.psa_model.specs.declared.settings.Algorithm.TheVariants.{Bdd}
-use Rattle.psa_model.specs.declared.settings.Mode.TheVariants.{CutSets}
+use Rattle.psa_model.specs.declared.settings.Settings.{Settings}
 use Rattle.psa_model.specs.declared.targets.Target.{Target}
 use Rattle.psa_model.specs.declared.targets.Target.TheVariants.{TopEvent}
 use Rattle.psa_model.specs.Events.{places_from}
 use Rattle.psa_model.specs.Targets.{top_targets, is_top_event}
-use Rattle.psa_model.specs.Report.{IsSection, AreSections, IsReport, head_text}
+use Rattle.psa_model.specs.Report.{Analysis, IsSection, AreSections, IsReport, head_text}
 use Rattle.psa_model.specs.Report.AreSections.{no_section, and_section}
+use Rattle.psa_model.specs.Report.IsReport.{written}
 use Rattle.psa_plain.specs.Tops.{IsTop}
 use Rattle.psa_ports.specs.Sink.{AppendsPrefix}
 use Rattle.psa_ports.proofs.Pieces.{prefix-nil, prefix-whole, prefix-more, prefix-after}
-use Rattle.psa_engine.specs.FirstModel.{WritesAll, WritesPart}
+use Rattle.psa_engine.specs.FirstModel.{AreFirst, WritesAll, WritesPart, first_settings}
 use Rattle.psa_engine.specs.Sections.{WritesSections, WritesSectionsPart}
 use Rattle.psa_engine.proofs.Written.{appends-after}
 
@@ -35,48 +35,48 @@ OnErr-then P Q (Ok x) f holds = holds
 OnErr-then P Q (Err e) f holds = f holds
 
 -- nothing was written yet
-pub sections-none : (expanded : Expanded) (before : Option (List ℕ)) → WritesSections expanded [] before before
-sections-none expanded before = record { text = []; are_sections = no_section; appended = Appends-nil before }
+pub sections-none : (analysis : Analysis) (before : Option (List ℕ)) → WritesSections analysis [] before before
+sections-none analysis before = record { text = []; are_sections = no_section; appended = Appends-nil before }
 
 -- one section more
-more-sections : (expanded : Expanded) (targets : List Target) (i : ℕ) (target : Target) (text section : List ℕ)
+more-sections : (analysis : Analysis) (targets : List Target) (i : ℕ) (target : Target) (text section : List ℕ)
     → i < length targets → target ≡ get_or targets i target
-    → AreSections expanded CutSets 20 (take i targets) text → IsSection expanded CutSets 20 target section
-    → AreSections expanded CutSets 20 (take (i + 1) targets) (text ++ section)
-more-sections expanded targets i target text section within is_target so_far one =
+    → AreSections analysis (take i targets) text → IsSection analysis target section
+    → AreSections analysis (take (i + 1) targets) (text ++ section)
+more-sections analysis targets i target text section within is_target so_far one =
     let longer : take (i + 1) targets ≡ take i targets ++ target ∷ [] =
     take_more targets i target within ∙ ap (λ (t : Target). take i targets ++ t ∷ []) (sym is_target) in
-    subst (λ (some : List Target). AreSections expanded CutSets 20 some (text ++ section)) (sym longer)
+    subst (λ (some : List Target). AreSections analysis some (text ++ section)) (sym longer)
     (and_section (take i targets) text target section so_far one)
 
-pub sections-more : (expanded : Expanded) (targets : List Target) (i : ℕ) (target : Target) (section : List ℕ) (before mid after : Option (List ℕ))
+pub sections-more : (analysis : Analysis) (targets : List Target) (i : ℕ) (target : Target) (section : List ℕ) (before mid after : Option (List ℕ))
     → i < length targets → target ≡ get_or targets i target
-    → WritesSections expanded (take i targets) before mid → IsSection expanded CutSets 20 target section → Appends mid after section
-    → WritesSections expanded (take (i + 1) targets) before after
-sections-more expanded targets i target section before mid after within is_target so_far one put = record {
+    → WritesSections analysis (take i targets) before mid → IsSection analysis target section → Appends mid after section
+    → WritesSections analysis (take (i + 1) targets) before after
+sections-more analysis targets i target section before mid after within is_target so_far one put = record {
   text = so_far.text ++ section;
-  are_sections = more-sections expanded targets i target so_far.text section within is_target so_far.are_sections one;
+  are_sections = more-sections analysis targets i target so_far.text section within is_target so_far.are_sections one;
   appended = appends-after before mid after so_far.text section so_far.appended put;
 }
 
 -- a section that was cut off
-pub sections-cut : (expanded : Expanded) (targets : List Target) (i : ℕ) (target : Target) (section : List ℕ) (before mid after : Option (List ℕ))
+pub sections-cut : (analysis : Analysis) (targets : List Target) (i : ℕ) (target : Target) (section : List ℕ) (before mid after : Option (List ℕ))
     → i < length targets → target ≡ get_or targets i target
-    → WritesSections expanded (take i targets) before mid → IsSection expanded CutSets 20 target section → AppendsPrefix mid after section
-    → WritesSectionsPart expanded targets before after
-sections-cut expanded targets i target section before mid after within is_target so_far one put = record {
+    → WritesSections analysis (take i targets) before mid → IsSection analysis target section → AppendsPrefix mid after section
+    → WritesSectionsPart analysis targets before after
+sections-cut analysis targets i target section before mid after within is_target so_far one put = record {
   shown = take (i + 1) targets;
   more = drop (i + 1) targets;
   are_targets = sym (take-append-drop (i + 1) targets);
   text = so_far.text ++ section;
-  are_sections = more-sections expanded targets i target so_far.text section within is_target so_far.are_sections one;
+  are_sections = more-sections analysis targets i target so_far.text section within is_target so_far.are_sections one;
   appended = prefix-after before mid after so_far.text section so_far.appended put;
 }
 
 -- whole sections of the first targets
-pub sections-so-far : (expanded : Expanded) (targets : List Target) (i : ℕ) (before now : Option (List ℕ))
-    → WritesSections expanded (take i targets) before now → WritesSectionsPart expanded targets before now
-sections-so-far expanded targets i before now so_far = record {
+pub sections-so-far : (analysis : Analysis) (targets : List Target) (i : ℕ) (before now : Option (List ℕ))
+    → WritesSections analysis (take i targets) before now → WritesSectionsPart analysis targets before now
+sections-so-far analysis targets i before now so_far = record {
   shown = take i targets;
   more = drop i targets;
   are_targets = sym (take-append-drop i targets);
@@ -86,39 +86,39 @@ sections-so-far expanded targets i before now so_far = record {
 }
 
 -- a prefix of the head
-pub report-head : (expanded : Expanded) (targets : List Target) (before after : Option (List ℕ))
-    → AppendsPrefix before after (head_text Bdd CutSets 20) → WritesPart expanded targets before after
-report-head expanded targets before after part = record {
+pub report-head : (analysis : Analysis) (targets : List Target) (before after : Option (List ℕ))
+    → analysis.settings.validate ≡ false → AppendsPrefix before after (head_text analysis.settings) → WritesPart analysis targets before after
+report-head analysis targets before after whole part = record {
   shown = [];
   more = targets;
   are_targets = refl;
-  text = head_text Bdd CutSets 20 ++ [];
-  is_report = record { sections = []; are_sections = no_section; spelled = refl };
-  appended = prefix-more before after (head_text Bdd CutSets 20) [] part;
+  text = head_text analysis.settings ++ [];
+  is_report = written [] whole no_section;
+  appended = prefix-more before after (head_text analysis.settings) [] part;
 }
 
 -- nothing of the report
-pub report-none : (expanded : Expanded) (targets : List Target) (before : Option (List ℕ)) → WritesPart expanded targets before before
-report-none expanded targets before = report-head expanded targets before before (prefix-nil before (head_text Bdd CutSets 20))
+pub report-none : (analysis : Analysis) (targets : List Target) (before : Option (List ℕ)) → analysis.settings.validate ≡ false → WritesPart analysis targets before before
+report-none analysis targets before whole = report-head analysis targets before before whole (prefix-nil before (head_text analysis.settings))
 
 -- the head and the sections
-pub report-all : (expanded : Expanded) (targets all : List Target) (before mid after : Option (List ℕ))
-    → targets ≡ all → Appends before mid (head_text Bdd CutSets 20) → WritesSections expanded targets mid after → WritesAll expanded all before after
-report-all expanded targets all before mid after same first sections = record {
-  text = head_text Bdd CutSets 20 ++ sections.text;
-  is_report = record { sections = sections.text; are_sections = subst (λ (some : List Target). AreSections expanded CutSets 20 some sections.text) same sections.are_sections; spelled = refl };
-  appended = appends-after before mid after (head_text Bdd CutSets 20) sections.text first sections.appended;
+pub report-all : (analysis : Analysis) (targets all : List Target) (before mid after : Option (List ℕ))
+    → analysis.settings.validate ≡ false → targets ≡ all → Appends before mid (head_text analysis.settings) → WritesSections analysis targets mid after → WritesAll analysis all before after
+report-all analysis targets all before mid after whole same first sections = record {
+  text = head_text analysis.settings ++ sections.text;
+  is_report = written sections.text whole (subst (λ (some : List Target). AreSections analysis some sections.text) same sections.are_sections);
+  appended = appends-after before mid after (head_text analysis.settings) sections.text first sections.appended;
 }
 
-pub report-part : (expanded : Expanded) (targets all : List Target) (before mid after : Option (List ℕ))
-    → targets ≡ all → Appends before mid (head_text Bdd CutSets 20) → WritesSectionsPart expanded targets mid after → WritesPart expanded all before after
-report-part expanded targets all before mid after same first sections = record {
+pub report-part : (analysis : Analysis) (targets all : List Target) (before mid after : Option (List ℕ))
+    → analysis.settings.validate ≡ false → targets ≡ all → Appends before mid (head_text analysis.settings) → WritesSectionsPart analysis targets mid after → WritesPart analysis all before after
+report-part analysis targets all before mid after whole same first sections = record {
   shown = sections.shown;
   more = sections.more;
   are_targets = sym same ∙ sections.are_targets;
-  text = head_text Bdd CutSets 20 ++ sections.text;
-  is_report = record { sections = sections.text; are_sections = sections.are_sections; spelled = refl };
-  appended = prefix-after before mid after (head_text Bdd CutSets 20) sections.text first sections.appended;
+  text = head_text analysis.settings ++ sections.text;
+  is_report = written sections.text whole sections.are_sections;
+  appended = prefix-after before mid after (head_text analysis.settings) sections.text first sections.appended;
 }
 
 -- top events are gates that stand
@@ -138,6 +138,13 @@ tops-stand expanded targets same =
     (All-from_recursion (IsTop expanded) (top_targets expanded.model) (tops-from expanded (is_top_event expanded.model) 0 expanded.model.gates (omega arith)))
 
 -- the head, letter by letter
-pub head-spelled : head_text Bdd CutSets 20 ≡ codes "scram report\nalgorithm bdd\nproducts minimal-cut-sets\nlimit-order 20\n"
+head-of_file : (name : List ℕ) → head_text (first_settings name) ≡ codes "scram report\nalgorithm bdd\nproducts minimal-cut-sets\nlimit-order 20\n"
 unfolding digits
-head-spelled = refl
+head-of_file name = refl
+
+pub head-spelled : (settings : Settings) → AreFirst settings → head_text settings ≡ codes "scram report\nalgorithm bdd\nproducts minimal-cut-sets\nlimit-order 20\n"
+head-spelled settings first = ap (λ (s : Settings). head_text s) first.1 ∙ head-of_file first.0
+
+-- a run over a file does more than check the model
+pub not-validated : (settings : Settings) → AreFirst settings → settings.validate ≡ false
+not-validated settings first = ap (λ (s : Settings). s.validate) first.1

@@ -15,7 +15,7 @@ use Rattle.psa_model.specs.declared.expanded.Expanded.{Expanded}
 use Rattle.psa_model.specs.declared.targets.Target.{Target}
 use Rattle.psa_model.specs.declared.targets.Target.TheVariants.{TopEvent, Sequence}
 use Rattle.psa_model.specs.Events.{events_of, places_from}
-use Rattle.psa_model.specs.Ranks.{visits, visits_layer, firsts, target_visits, AreRanks}
+use Rattle.psa_model.specs.Ranks.{visits, visits_layer, firsts, target_visits, ranks_of}
 use Rattle.psa_model.specs.Truth.{at_gate}
 
 or-right : (a b : Bool) → b ≡ true → (a || b) ≡ true
@@ -144,8 +144,8 @@ unfolding AllBelow
 firsts-length n xs below = length-le_from_distinct_below (firsts xs) n (firsts-distinct xs) (λ q h. below q (firsts-has q xs h))
 
 -- a target has no more ranks than the model has events
-pub ranks-fit : (expanded : Expanded) (target : Target) (ranks : List EventNumber) → AreRanks expanded target ranks → length ranks ≤ length expanded.events
-ranks-fit expanded target ranks are_ranks =
+pub ranks-fit : (expanded : Expanded) (target : Target) → length (ranks_of expanded target) ≤ length expanded.events
+ranks-fit expanded target =
     let fits : length (firsts (target_visits expanded target)) ≤ length expanded.events = firsts-length (length expanded.events) (target_visits expanded target) (below-target expanded target) in
-    let same : length (firsts (target_visits expanded target)) ≡ length ranks = ap length (sym are_ranks) ∙ length-map ranks (λ event. event.0) in
-    rw same at fits
+    let same : length (ranks_of expanded target) ≡ length (firsts (target_visits expanded target)) = length-map (firsts (target_visits expanded target)) (λ event. record { 0 = event }) in
+    rw (sym same) at fits

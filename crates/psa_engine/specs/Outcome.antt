@@ -4,11 +4,12 @@ use Rattle.std.specs.Prelude.{◌≡◌, ◌⊎◌, ℕ, List, Option, Some, Non
 use Rattle.psa_ports.specs.Folder.{Tells, text_of}
 use Rattle.psa_engine.specs.declared.status.Status.{Status}
 use Rattle.psa_engine.specs.declared.status.Status.TheVariants.{Done, Unbuilt, ReadFault, WriteFault, OutOfMemory}
-use Rattle.psa_engine.specs.FirstModel.{model_of, SaysModel, ReportsAll, ReportsPart}
+use Rattle.psa_model.specs.declared.settings.Settings.{Settings}
+use Rattle.psa_engine.specs.FirstModel.{first_settings, model_of, SaysModel, ReportsAll, ReportsPart}
 
--- the words name a file, and where the files are told, P holds of its bytes
-abbrev pub FileTells : Option (List (List ℕ × List ℕ)) → Option (List ℕ) → (List ℕ → Type 0) → Type 0
-FileTells files word P = IsSomeAnd word (λ name. Tells files name P)
+-- the words name a file, and where the files are told, P holds of its name and its bytes
+abbrev pub FileTells : Option (List (List ℕ × List ℕ)) → Option (List ℕ) → (List ℕ → List ℕ → Type 0) → Type 0
+FileTells files word P = IsSomeAnd word (λ name. Tells files name (P name))
 
 -- the words name a file, the files are told, and P holds of its bytes
 abbrev pub FileHas : Option (List (List ℕ × List ℕ)) → Option (List ℕ) → (List ℕ → Type 0) → Type 0
@@ -17,16 +18,16 @@ FileHas files word P = IsSomeAnd word (λ name. IsSomeAnd files (λ told. IsSome
 -- A row for each status: when it comes, and what it leaves. `ReadRose` and `WriteRose` say that the
 -- folder's and out's counts of faults rose in the run; `before` and `after` are out's bytes.
 pub record Outcome (files : Option (List (List ℕ × List ℕ))) (word : Option (List ℕ)) (ReadRose WriteRose : Type 0) (before after : Option (List ℕ)) (status : Status) : Type 0 where
-  pub done : status ≡ Done → FileTells files word (λ bytes. SaysModel bytes (ReportsAll before after))
-  pub unbuilt : status ≡ Unbuilt → (after ≡ before) × ((word ≡ None) ⊎ FileTells files word (λ bytes. model_of bytes ≡ None))
+  pub done : status ≡ Done → FileTells files word (λ name bytes. SaysModel bytes (ReportsAll (first_settings name) before after))
+  pub unbuilt : status ≡ Unbuilt → (after ≡ before) × ((word ≡ None) ⊎ FileTells files word (λ name bytes. model_of bytes ≡ None))
   pub read_fault : status ≡ ReadFault → (after ≡ before) × IsSome word × ReadRose
-  pub write_fault : status ≡ WriteFault → WriteRose × FileTells files word (λ bytes. SaysModel bytes (ReportsPart before after))
-  pub out_of_memory : status ≡ OutOfMemory → (after ≡ before) ⊎ FileTells files word (λ bytes. SaysModel bytes (ReportsPart before after))
+  pub write_fault : status ≡ WriteFault → WriteRose × FileTells files word (λ name bytes. SaysModel bytes (ReportsPart (first_settings name) before after))
+  pub out_of_memory : status ≡ OutOfMemory → (after ≡ before) ⊎ FileTells files word (λ name bytes. SaysModel bytes (ReportsPart (first_settings name) before after))
 
 -- The same for the run over a file's bytes.
-pub record BytesOutcome (bytes : List ℕ) (WriteRose : Type 0) (before after : Option (List ℕ)) (status : Status) : Type 0 where
-  pub done : status ≡ Done → SaysModel bytes (ReportsAll before after)
+pub record BytesOutcome (settings : Settings) (bytes : List ℕ) (WriteRose : Type 0) (before after : Option (List ℕ)) (status : Status) : Type 0 where
+  pub done : status ≡ Done → SaysModel bytes (ReportsAll settings before after)
   pub unbuilt : status ≡ Unbuilt → (after ≡ before) × (model_of bytes ≡ None)
   pub read_fault : status ≡ ReadFault → ⊥
-  pub write_fault : status ≡ WriteFault → WriteRose × SaysModel bytes (ReportsPart before after)
-  pub out_of_memory : status ≡ OutOfMemory → (after ≡ before) ⊎ SaysModel bytes (ReportsPart before after)
+  pub write_fault : status ≡ WriteFault → WriteRose × SaysModel bytes (ReportsPart settings before after)
+  pub out_of_memory : status ≡ OutOfMemory → (after ≡ before) ⊎ SaysModel bytes (ReportsPart settings before after)

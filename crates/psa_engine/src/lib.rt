@@ -6,6 +6,7 @@ mod names;
 mod report;
 mod run;
 mod section;
+mod settings;
 mod status;
 mod telling;
 mod words;
@@ -13,6 +14,3 @@ mod words;
 pub use psa_words::{WordsError, read_words};
 pub use run::analyse_words;
 pub use status::Status;
-
-#[cfg(test)]
-mod tests;

@@ -1,4 +1,4 @@
-ghost use Rattle.std.specs.Prelude.{◌≡◌, List, [], ◌∷◌, ◌++◌, OnOk, IfOk, if◌then◌else◌};
+ghost use Rattle.std.specs.Prelude.{◌≡◌, List, [], ◌∷◌, ◌++◌, OnOk, IfOk, codes, if◌then◌else◌};
 ghost use Rattle.std.specs.List.{slice_get, join_by};
 ghost use Rattle.psa_model.specs.Events.{members_at};
 ghost use Rattle.psa_engine.specs.Joined.{names_left};
@@ -105,7 +105,7 @@ fn push_held(
     members: &[EventId],
     subset: u8,
 ) -> Result<(), OutOfMemory>
-    ensures { OnOk result (text.new.items ≡ text.old.items ++ join_by (λ id. basic_name model.now id.0) (32 ∷ []) (held_members subset members.now)) }
+    ensures { OnOk result (text.new.items ≡ text.old.items ++ join_by (λ id. basic_name model.now id.0) (codes " ") (held_members subset members.now)) }
 {
     let mut is_first = true;
     let mut left = subset;

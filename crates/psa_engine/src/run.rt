@@ -3,7 +3,7 @@ ghost use Rattle.std.specs.Option.{option_map};
 ghost use Rattle.std.specs.Io.KnownBytes.{Appends};
 ghost use Rattle.psa_ports.specs.Counts.{Rose};
 ghost use Rattle.psa_ports.specs.Sink.{AppendsPrefix};
-ghost use Rattle.psa_engine.specs.FirstModel.{IsFirst, expanded_of, model_of};
+ghost use Rattle.psa_engine.specs.FirstModel.{AreFirst, IsFirst, expanded_of, model_of};
 ghost use Rattle.psa_engine.specs.Lines.{status_line};
 ghost use Rattle.psa_engine.specs.Outcome.{BytesOutcome, FileHas, Outcome};
 ghost use Rattle.psa_engine.specs.Words.{file_of};
@@ -11,10 +11,11 @@ ghost use Rattle.psa_engine.specs.Words.{file_of};
 use crate::Status;
 use crate::files::{ReadError, read_whole};
 use crate::report::{ReportError, write_report};
+use crate::settings::first_settings;
 use crate::telling::tell;
 use crate::words::file_word;
 use psa_first_reader::read_first_model;
-use psa_model::Expanded;
+use psa_model::{Expanded, Settings};
 use psa_plain::expand_plain;
 use psa_ports::{Folder, Sink};
 use psa_text::{OutOfMemory, first_document};
@@ -72,8 +73,11 @@ fn run_file<F: Folder, O: Sink>(alloc: Global, name: &str, files: &mut F, out: &
     ensures opens { F.opens files.new ≤ F.opens files.old + 1 }
     ensures reads { F.reads files.new ≤ F.reads files.old + 1048577 }
 {
+    let Ok(settings) = first_settings(alloc, name) else {
+        return Status::OutOfMemory;
+    };
     match read_whole(alloc, files, name) {
-        Ok(Some(bytes)) => run_bytes(alloc, bytes.as_slice(), out),
+        Ok(Some(bytes)) => run_bytes(alloc, &settings, bytes.as_slice(), out),
         Ok(None) => Status::Unbuilt,
         Err(ReadError::Failed) => Status::ReadFault,
         Err(ReadError::Memory) => Status::OutOfMemory,
@@ -81,11 +85,12 @@ fn run_file<F: Folder, O: Sink>(alloc: Global, name: &str, files: &mut F, out: &
 }
 
 /// The run over the bytes of a file.
-fn run_bytes<O: Sink>(alloc: Global, bytes: &[u8], out: &mut O) -> Status
-    ensures { BytesOutcome bytes.now (Rose (O.faults out.old) (O.faults out.new)) (O.written out.old) (O.written out.new) result }
+fn run_bytes<O: Sink>(alloc: Global, settings: &Settings, bytes: &[u8], out: &mut O) -> Status
+    requires { AreFirst settings.now }
+    ensures { BytesOutcome settings.now bytes.now (Rose (O.faults out.old) (O.faults out.new)) (O.written out.old) (O.written out.new) result }
 {
     match first_expanded(alloc, bytes) {
-        Ok(Some(expanded)) => match write_report(alloc, &expanded, out) {
+        Ok(Some(expanded)) => match write_report(alloc, settings, &expanded, out) {
             Ok(()) => Status::Done,
             Err(ReportError::Write) => Status::WriteFault,
             Err(ReportError::Memory) => Status::OutOfMemory,

@@ -2,19 +2,17 @@ ghost use Rattle.std.specs.Prelude.{◌≡◌, ◌++◌, [], ◌∷◌, map, cod
 ghost use Rattle.std.specs.List.{flat_map};
 ghost use Rattle.psa_logic.specs.Products.{positive_product};
 ghost use Rattle.psa_model.specs.Names.{name_in};
-ghost use Rattle.psa_model.specs.Report.{count_line, gate_tree_name, literals_text, product_line, section_text, sequence_tree_name, target_line};
-ghost use Rattle.psa_engine.specs.Joined.{events_after};
+ghost use Rattle.psa_model.specs.Report.{count_line, gate_tree_name, literals_text, sequence_tree_name, target_line};
+ghost use Rattle.psa_engine.specs.Joined.{events_after, line_without_bound, section_without_quantities};
 
 use crate::names::push_ranked;
 use itoa::Buffer;
 use psa_model::{
-    EventNumber, Expanded, FaultTreeId, GateId, InitiatingId, Model, SequenceId, Target, TreeId,
+    EventNumber, Expanded, FaultTreeId, GateId, InitiatingId, MAX_COUNT, Model, SequenceId, Target,
+    TreeId,
 };
 use psa_text::{Items, OutOfMemory};
 use std::alloc::Global;
-
-/// The greatest count that is printed.
-const MAX_COUNT: u64 = 1_000_000_000_000_000_000;
 
 /// The section of a target over its minimal cut sets, each a set of ranks: the target's line, a line
 /// a cut set, and their count.
@@ -25,7 +23,7 @@ pub fn section_bytes(
     ranks: &[EventNumber],
     sets: &[Items<u32>],
 ) -> Result<Vec<u8>, OutOfMemory>
-    ensures { IfOk result (λ text. text.items ≡ section_text expanded.now target.now ranks.now (map positive_product sets.now)) }
+    ensures { IfOk result (λ text. text.items ≡ section_without_quantities expanded.now target.now ranks.now (map positive_product sets.now)) }
 {
     let mut text = Vec::new(alloc);
     push_target(&mut text, &expanded.model, target)?;
@@ -149,7 +147,7 @@ fn push_products(
     ranks: &[EventNumber],
     sets: &[Items<u32>],
 ) -> Result<(), OutOfMemory>
-    ensures { OnOk result (text.new.items ≡ text.old.items ++ flat_map (λ set. product_line expanded.now ranks.now (positive_product set)) sets.now) }
+    ensures { OnOk result (text.new.items ≡ text.old.items ++ flat_map (λ set. line_without_bound expanded.now ranks.now (positive_product set)) sets.now) }
 {
     for set in sets {
         push_product(text, expanded, ranks, set.as_slice())?;
@@ -164,7 +162,7 @@ fn push_product(
     ranks: &[EventNumber],
     set: &[u32],
 ) -> Result<(), OutOfMemory>
-    ensures { OnOk result (text.new.items ≡ text.old.items ++ product_line expanded.now ranks.now (positive_product set.now)) }
+    ensures { OnOk result (text.new.items ≡ text.old.items ++ line_without_bound expanded.now ranks.now (positive_product set.now)) }
 {
     let mut digits = Buffer::new();
     text.extend_from_slice(b"- ")?;

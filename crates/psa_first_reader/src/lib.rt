@@ -6,7 +6,5 @@ mod error;
 mod formulas;
 mod model;
 mod names;
-#[cfg(test)]
-mod tests;
 
 pub use model::read_first_model;

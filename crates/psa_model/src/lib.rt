@@ -32,14 +32,17 @@ pub use examples::{
 pub use expanded::{Expanded, ExpandedEvent};
 pub use expression::{Expression, ExpressionOperator};
 pub use fault::{FaultKind, ModelFault};
-pub use formula::{Connective, Formula};
+pub use formula::{Connective, Formula, MAX_COUNTED_ARGUMENTS};
 pub use ids::{
     BranchId, EventId, EventNumber, FaultTreeId, FormulaId, FunctionalId, GateId, GroupId, HouseId,
     InitiatingId, ParameterId, Place, RuleId, SequenceId, TreeId,
 };
-pub use laws::{gate_is_its_formula, more_levels_change_nothing};
 pub use limits::{
     MAX_INSTRUCTIONS, MAX_MEMBERS, MAX_NESTING, MAX_PATHS, MAX_SIZE, MAX_VALUE_LEVELS, MIN_MEMBERS,
+};
+pub use laws::{
+    each_report_is_one_text, each_target_has_a_listing, gate_is_its_formula,
+    more_levels_change_nothing, products_hold_ranks, ranks_decide_truth,
 };
 pub use model::{
     BasicEvent, EventTree, Factor, FaultTree, Functional, Gate, Group, GroupModel, House,
@@ -49,7 +52,7 @@ pub use model_laws::{group_is_a_model, more_levels_change_no_walk};
 pub use path_laws::{
     more_levels_change_no_path, paths_are_short, top_events_alone, walks_without_a_fault_end,
 };
-pub use product::{Literal, MAX_ORDER, Product};
+pub use product::{Literal, MAX_COUNT, MAX_ORDER, Product};
 pub use settings::{Algorithm, Input, Mode, Settings};
 pub use targets::{Path, PathStep, Ranks, Target, Targets, Values};
 pub use value_laws::{intervals_hold_exact_values, more_levels_change_no_value};

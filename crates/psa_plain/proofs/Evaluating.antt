@@ -14,7 +14,7 @@ use Rattle.psa_model.specs.declared.model.Gate.{Gate}
 use Rattle.psa_model.specs.declared.model.House.{House}
 use Rattle.psa_model.specs.declared.expanded.Expanded.{Expanded}
 use Rattle.psa_model.specs.Events.{events_of}
-use Rattle.psa_model.specs.Formulas.{connected, count_true}
+use Rattle.psa_model.specs.Formulas.{truth_of_connective, count_true}
 use Rattle.psa_model.specs.Truth.{truth, house_states, at_gate, state_of}
 use Rattle.psa_model.proofs.Levels.{truth-gate, truth-basic, truth-house, truth-constant, truth-connective, some-level, arguments-within, gate-within}
 use Rattle.psa_plain.specs.declared.evaluation.Question.{Question}
@@ -53,7 +53,7 @@ answered-constant q f b memo is right = answered-as q f (variant.Constant b) mem
   is = λ n enough. sym (truth-constant n q.expanded.now (house_states q.expanded.now.model) (asked q) b (some-level n q.expanded.now.model _ enough));
 })
 
-pub answered-connective : (q : Question) (f : Formula) (operator : Connective) (min max : ℕ) (arguments : List Formula) (memo : Memo) (result : Bool) → f ≡ variant.Connective operator min max arguments → Answered q (λ n. list_all (λ g. is_enough q g n) arguments) (λ n. connected operator min max (map (λ g. truth_at q g n) arguments)) memo result → FormulaAnswered q f memo result
+pub answered-connective : (q : Question) (f : Formula) (operator : Connective) (min max : ℕ) (arguments : List Formula) (memo : Memo) (result : Bool) → f ≡ variant.Connective operator min max arguments → Answered q (λ n. list_all (λ g. is_enough q g n) arguments) (λ n. truth_of_connective operator min max (map (λ g. truth_at q g n) arguments)) memo result → FormulaAnswered q f memo result
 answered-connective q f operator min max arguments memo result is answered = answered-as q f (variant.Connective operator min max arguments) memo result is (record {
   right = answered.right;
   is = λ n enough.
@@ -129,14 +129,14 @@ counted-end q arguments i memo count past counted = record {
 }
 
 -- a connective by the count
-pub answered-counted : (q : Question) (operator : Connective) (min max : ℕ) (arguments : List Formula) (memo : Memo) (count : ℕ) (result : Bool) → Answered q (λ n. list_all (λ g. is_enough q g n) arguments) (λ n. count_true (map (λ g. truth_at q g n) arguments)) memo count → ((values : List Bool) → length values ≡ length arguments → count_true values ≡ count → result ≡ connected operator min max values) → Answered q (λ n. list_all (λ g. is_enough q g n) arguments) (λ n. connected operator min max (map (λ g. truth_at q g n) arguments)) memo result
+pub answered-counted : (q : Question) (operator : Connective) (min max : ℕ) (arguments : List Formula) (memo : Memo) (count : ℕ) (result : Bool) → Answered q (λ n. list_all (λ g. is_enough q g n) arguments) (λ n. count_true (map (λ g. truth_at q g n) arguments)) memo count → ((values : List Bool) → length values ≡ length arguments → count_true values ≡ count → result ≡ truth_of_connective operator min max values) → Answered q (λ n. list_all (λ g. is_enough q g n) arguments) (λ n. truth_of_connective operator min max (map (λ g. truth_at q g n) arguments)) memo result
 answered-counted q operator min max arguments memo count result counted decided = record {
   right = counted.right;
   is = λ n enough. decided (map (λ g. truth_at q g n) arguments) (length-map arguments (λ g. truth_at q g n)) (sym (counted.is n enough));
 }
 
 -- an implication
-pub answered-implication : (q : Question) (a b : Formula) (m1 m2 : Memo) (x y : Bool) → FormulaAnswered q a m1 x → FormulaAnswered q b m2 y → (result : Bool) → result ≡ (not x || y) → Answered q (λ n. list_all (λ g. is_enough q g n) (a ∷ b ∷ [])) (λ n. connected Imply 0 0 (map (λ g. truth_at q g n) (a ∷ b ∷ []))) m2 result
+pub answered-implication : (q : Question) (a b : Formula) (m1 m2 : Memo) (x y : Bool) → FormulaAnswered q a m1 x → FormulaAnswered q b m2 y → (result : Bool) → result ≡ (not x || y) → Answered q (λ n. list_all (λ g. is_enough q g n) (a ∷ b ∷ [])) (λ n. truth_of_connective Imply 0 0 (map (λ g. truth_at q g n) (a ∷ b ∷ []))) m2 result
 answered-implication q a b m1 m2 x y first second result value = record {
   right = second.right;
   is = λ n enough.
@@ -156,15 +156,15 @@ state-missing houses place missing = sym (ap state_of (slice_get-map (λ h. h.st
 pub indexed : (expanded : Expanded) (lists : List (List ℕ)) (event : ℕ) → IsIndex expanded lists → event < length expanded.model.basics → unwrap_or (slice_get lists event) [] ≡ events_of expanded event
 indexed expanded lists event index stands = ap (λ o. unwrap_or o []) (index event stands)
 
-pub answered-items : (q : Question) (f : Formula) (operator : Connective) (min max : ℕ) (arguments items : List Formula) (memo : Memo) (result : Bool) → f ≡ variant.Connective operator min max arguments → items ≡ arguments → Answered q (λ n. list_all (λ g. is_enough q g n) items) (λ n. connected operator min max (map (λ g. truth_at q g n) items)) memo result → FormulaAnswered q f memo result
+pub answered-items : (q : Question) (f : Formula) (operator : Connective) (min max : ℕ) (arguments items : List Formula) (memo : Memo) (result : Bool) → f ≡ variant.Connective operator min max arguments → items ≡ arguments → Answered q (λ n. list_all (λ g. is_enough q g n) items) (λ n. truth_of_connective operator min max (map (λ g. truth_at q g n) items)) memo result → FormulaAnswered q f memo result
 answered-items q f operator min max arguments items memo result is same answered =
     answered-connective q f operator min max arguments memo result is
-    (subst (λ gs. Answered q (λ n. list_all (λ g. is_enough q g n) gs) (λ n. connected operator min max (map (λ g. truth_at q g n) gs)) memo result) same answered)
+    (subst (λ gs. Answered q (λ n. list_all (λ g. is_enough q g n) gs) (λ n. truth_of_connective operator min max (map (λ g. truth_at q g n) gs)) memo result) same answered)
 
-pub answered-imply : (q : Question) (operator : Connective) (min max : ℕ) (arguments : List Formula) (memo : Memo) (result : Bool) → operator ≡ Imply → Answered q (λ n. list_all (λ g. is_enough q g n) arguments) (λ n. connected Imply 0 0 (map (λ g. truth_at q g n) arguments)) memo result → Answered q (λ n. list_all (λ g. is_enough q g n) arguments) (λ n. connected operator min max (map (λ g. truth_at q g n) arguments)) memo result
+pub answered-imply : (q : Question) (operator : Connective) (min max : ℕ) (arguments : List Formula) (memo : Memo) (result : Bool) → operator ≡ Imply → Answered q (λ n. list_all (λ g. is_enough q g n) arguments) (λ n. truth_of_connective Imply 0 0 (map (λ g. truth_at q g n) arguments)) memo result → Answered q (λ n. list_all (λ g. is_enough q g n) arguments) (λ n. truth_of_connective operator min max (map (λ g. truth_at q g n) arguments)) memo result
 answered-imply q operator min max arguments memo result is answered =
-    let here : Answered q (λ n. list_all (λ g. is_enough q g n) arguments) (λ n. connected Imply min max (map (λ g. truth_at q g n) arguments)) memo result = answered in
-    subst (λ op. Answered q (λ n. list_all (λ g. is_enough q g n) arguments) (λ n. connected op min max (map (λ g. truth_at q g n) arguments)) memo result) (sym is) here
+    let here : Answered q (λ n. list_all (λ g. is_enough q g n) arguments) (λ n. truth_of_connective Imply min max (map (λ g. truth_at q g n) arguments)) memo result = answered in
+    subst (λ op. Answered q (λ n. list_all (λ g. is_enough q g n) arguments) (λ n. truth_of_connective op min max (map (λ g. truth_at q g n) arguments)) memo result) (sym is) here
 
 -- a memo that knows nothing is right
 pub blank-right : (q : Question) (memo : Memo) → ((gate : ℕ) → recorded memo gate ≡ None) → AllRight q memo
@@ -177,18 +177,18 @@ of-two-items (x ∷ []) a b size first second = absurd (omega arith)
 of-two-items (x ∷ y ∷ []) a b size first second = cc
 of-two-items (x ∷ y ∷ z ∷ zs) a b size first second = absurd (omega arith)
 
-pub answered-two : (q : Question) (arguments : List Formula) (a b : Formula) (m1 m2 : Memo) (x y result : Bool) → length arguments ≡ 2 → a ≡ get_or arguments 0 a → b ≡ get_or arguments 1 b → FormulaAnswered q a m1 x → FormulaAnswered q b m2 y → result ≡ (not x || y) → Answered q (λ n. list_all (λ g. is_enough q g n) arguments) (λ n. connected Imply 0 0 (map (λ g. truth_at q g n) arguments)) m2 result
+pub answered-two : (q : Question) (arguments : List Formula) (a b : Formula) (m1 m2 : Memo) (x y result : Bool) → length arguments ≡ 2 → a ≡ get_or arguments 0 a → b ≡ get_or arguments 1 b → FormulaAnswered q a m1 x → FormulaAnswered q b m2 y → result ≡ (not x || y) → Answered q (λ n. list_all (λ g. is_enough q g n) arguments) (λ n. truth_of_connective Imply 0 0 (map (λ g. truth_at q g n) arguments)) m2 result
 answered-two q arguments a b m1 m2 x y result size first second one other value =
-    subst (λ gs. Answered q (λ n. list_all (λ g. is_enough q g n) gs) (λ n. connected Imply 0 0 (map (λ g. truth_at q g n) gs)) m2 result) (sym (of-two-items arguments a b size first second))
+    subst (λ gs. Answered q (λ n. list_all (λ g. is_enough q g n) gs) (λ n. truth_of_connective Imply 0 0 (map (λ g. truth_at q g n) gs)) m2 result) (sym (of-two-items arguments a b size first second))
     (answered-implication q a b m1 m2 x y one other result value)
 
-not-two : (values : List Bool) → (length values ≡ 2 → ⊥) → connected Imply 0 0 values ≡ false
+not-two : (values : List Bool) → (length values ≡ 2 → ⊥) → truth_of_connective Imply 0 0 values ≡ false
 not-two [] h = refl
 not-two (a ∷ []) h = refl
 not-two (a ∷ b ∷ []) h = absurd (h refl)
 not-two (a ∷ b ∷ c ∷ rest) h = refl
 
-pub answered-other : (q : Question) (arguments : List Formula) (memo : Memo) → (length arguments ≡ 2 → ⊥) → AllRight q memo → Answered q (λ n. list_all (λ g. is_enough q g n) arguments) (λ n. connected Imply 0 0 (map (λ g. truth_at q g n) arguments)) memo false
+pub answered-other : (q : Question) (arguments : List Formula) (memo : Memo) → (length arguments ≡ 2 → ⊥) → AllRight q memo → Answered q (λ n. list_all (λ g. is_enough q g n) arguments) (λ n. truth_of_connective Imply 0 0 (map (λ g. truth_at q g n) arguments)) memo false
 answered-other q arguments memo size right = record {
   right = right;
   is = λ n enough. sym (not-two (map (λ g. truth_at q g n) arguments) (λ two. size (sym (length-map arguments (λ g. truth_at q g n)) ∙ two)));

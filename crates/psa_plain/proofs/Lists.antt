@@ -61,14 +61,6 @@ by-rank-step s ranks rank event one inside is =
 pub by-rank-end : (s : ℕ → Bool) (ranks : List EventNumber) (rank event : ℕ) → length ranks ≤ rank → occurs_by_rank s rank (drop rank ranks) event ≡ false
 by-rank-end s ranks rank event l = rw (drop_all rank ranks l) refl
 
--- sets that agree below the number of ranks make the same events occur
-pub by-rank-agree : (s t : ℕ → Bool) (ranks : List EventNumber) (from event : ℕ) → ((rank : ℕ) → rank < from + length ranks → s rank ≡ t rank) → occurs_by_rank s from ranks event ≡ occurs_by_rank t from ranks event
-by-rank-agree s t [] from event agree = refl
-by-rank-agree s t (one ∷ ranks) from event agree =
-    let here : s from ≡ t from = agree from (omega arith) in
-    let more : occurs_by_rank s (suc from) ranks event ≡ occurs_by_rank t (suc from) ranks event = by-rank-agree s t ranks (suc from) event (λ rank below. agree rank (omega arith)) in
-    rw (here, more) refl
-
 pub occurs-step : (set : List ℕ) (i x one : ℕ) → i < length set → one ≡ get_or set i one → occurs (drop i set) x ≡ (eqb one x || occurs (drop (i + 1) set) x)
 occurs-step set i x one inside is =
     rw (drop_more set i one inside ∙ ap (λ y. y ∷ drop (i + 1) set) (sym is)) refl

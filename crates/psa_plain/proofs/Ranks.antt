@@ -9,13 +9,14 @@ use Rattle.psa_model.specs.declared.formula.Connective.{Connective}
 use Rattle.psa_model.specs.declared.formula.Formula.{Formula}
 use Rattle.psa_model.specs.declared.formula.Formula.TheVariants as variant
 use Rattle.psa_model.specs.declared.ids.EventId.{EventId}
+use Rattle.psa_model.specs.declared.ids.EventNumber.{EventNumber}
 use Rattle.psa_model.specs.declared.ids.GateId.{GateId}
 use Rattle.psa_model.specs.declared.ids.HouseId.{HouseId}
 use Rattle.psa_model.specs.declared.model.Gate.{Gate}
 use Rattle.psa_model.specs.declared.model.Model.{Model}
 use Rattle.psa_model.specs.declared.expanded.Expanded.{Expanded}
 use Rattle.psa_model.specs.Events.{events_of}
-use Rattle.psa_model.specs.Ranks.{visits, firsts}
+use Rattle.psa_model.specs.Ranks.{visits, firsts, ranks_of}
 use Rattle.psa_model.specs.Truth.{within, at_gate}
 use Rattle.psa_model.proofs.Levels.{visits-gate, visits-basic, visits-house, visits-constant, visits-connective, some-level, arguments-within, gate-within, and-left, and-right, and-both}
 use Rattle.psa_plain.specs.declared.ranking.Ranking.{Ranking}
@@ -23,7 +24,6 @@ use Rattle.psa_plain.specs.Ranking.{is_in, ranked, numbers, Agrees, AllEntered, 
 use Rattle.psa_model.specs.declared.model.TheConstants.{MAX_DEPTH}
 use Rattle.psa_model.specs.declared.targets.Target.{Target}
 use Rattle.psa_model.specs.declared.targets.Target.TheVariants.{TopEvent}
-use Rattle.psa_model.specs.Ranks.{AreRanks}
 use Rattle.psa_model.specs.Truth.{IsResolved}
 use Rattle.psa_model.proofs.Levels.{within-of-gate}
 use Rattle.psa_plain.specs.Tops.{IsTop}
@@ -309,9 +309,16 @@ gate-deep model gate resolved stands =
 pub top-stands : (expanded : Expanded) (target : Target) (gate : GateId) → target ≡ TopEvent gate → IsTop expanded target → gate.0 < length expanded.model.gates
 top-stands expanded target gate is top = subst (λ (t : Target). IsTop expanded t) is top
 
-pub ranks-answer : (expanded : Expanded) (target : Target) (gate : GateId) (before after : Ranking) → target ≡ TopEvent gate → numbers before ≡ [] → within (suc MAX_DEPTH) expanded.model (variant.Gate gate) ≡ true → FormulaRanked expanded (variant.Gate gate) before after → AreRanks expanded target after.ranks
+-- events by their numbers
+events-of_numbers : (events : List EventNumber) → events ≡ map (λ number. record { 0 = number }) (map (λ event. event.0) events)
+events-of_numbers [] = refl
+events-of_numbers (event ∷ events) = ap (λ more. event ∷ more) (events-of_numbers events)
+
+pub ranks-answer : (expanded : Expanded) (target : Target) (gate : GateId) (before after : Ranking) → target ≡ TopEvent gate → numbers before ≡ [] → within (suc MAX_DEPTH) expanded.model (variant.Gate gate) ≡ true → FormulaRanked expanded (variant.Gate gate) before after → after.ranks ≡ ranks_of expanded target
 ranks-answer expanded target gate before after is none deep done =
-    subst (λ t. AreRanks expanded t after.ranks) (sym is)
+    subst (λ t. after.ranks ≡ ranks_of expanded t) (sym is)
+    (events-of_numbers after.ranks
+    ∙ ap (map (λ number. record { 0 = number }))
     (done.ranks (suc MAX_DEPTH) deep
     ∙ ap (λ ns. ranked ns (visits (suc MAX_DEPTH) expanded (variant.Gate gate))) none
-    ∙ ranked-from-none (visits (suc MAX_DEPTH) expanded (variant.Gate gate)))
+    ∙ ranked-from-none (visits (suc MAX_DEPTH) expanded (variant.Gate gate))))

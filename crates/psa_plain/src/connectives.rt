@@ -1,5 +1,5 @@
 ghost use Rattle.std.specs.Prelude.{◌≡◌, ◌≢◌, ◌<◌, ◌^◌, ◌+◌, suc, List, Bool, true, length, if◌then◌else◌};
-ghost use Rattle.psa_model.specs.Formulas.{connected, has_arity, count_true};
+ghost use Rattle.psa_model.specs.Formulas.{truth_of_connective, has_arity, count_true};
 
 use psa_model::Connective;
 
@@ -12,7 +12,7 @@ pub fn is_satisfied(
     count: usize,
 ) -> bool
     requires { operator ≢ Connective.Imply }
-    ensures { (values : List Bool) → length values ≡ arguments → count_true values ≡ count → has_arity operator min max arguments ≡ true → result ≡ connected operator min max values }
+    ensures { (values : List Bool) → length values ≡ arguments → count_true values ≡ count → has_arity operator min max arguments ≡ true → result ≡ truth_of_connective operator min max values }
 {
     match operator {
         Connective::And => count == arguments,

@@ -2,7 +2,7 @@ ghost use Rattle.std.specs.Prelude.{◌≡◌, ◌≢◌, ◌<◌, ◌*◌, ◌+
 ghost use Rattle.std.specs.List.{list_any, list_all, slice_get};
 ghost use Rattle.psa_model.specs.declared.formula.Formula.TheVariants as variant;
 ghost use Rattle.psa_model.specs.Events.{events_of};
-ghost use Rattle.psa_model.specs.Formulas.{connected, has_arity, count_true};
+ghost use Rattle.psa_model.specs.Formulas.{truth_of_connective, has_arity, count_true};
 ghost use Rattle.psa_model.specs.Truth.{within, house_states, state_of};
 ghost use Rattle.psa_plain.specs.Answers.{is_enough, truth_at, AllRight, Answered};
 ghost use Rattle.psa_plain.specs.Asking.{asked};
@@ -85,7 +85,7 @@ fn connective_truth(
     requires within { list_all (λ g. is_enough question.now g depth) arguments.now ≡ true }
     requires index { IsIndex question.now.expanded.now question.now.index.now }
     requires right { AllRight question.now memo.old }
-    ensures { Answered question.now (λ n. list_all (λ g. is_enough question.now g n) arguments.now) (λ n. connected operator min max (map (λ g. truth_at question.now g n) arguments.now)) memo.new result }
+    ensures { Answered question.now (λ n. list_all (λ g. is_enough question.now g n) arguments.now) (λ n. truth_of_connective operator min max (map (λ g. truth_at question.now g n) arguments.now)) memo.new result }
 {
     match operator {
         Connective::Imply => implication_truth(question, memo, arguments, depth),
@@ -107,7 +107,7 @@ fn implication_truth(
     requires within { list_all (λ g. is_enough question.now g depth) arguments.now ≡ true }
     requires index { IsIndex question.now.expanded.now question.now.index.now }
     requires right { AllRight question.now memo.old }
-    ensures { Answered question.now (λ n. list_all (λ g. is_enough question.now g n) arguments.now) (λ n. connected Connective.Imply 0 0 (map (λ g. truth_at question.now g n) arguments.now)) memo.new result }
+    ensures { Answered question.now (λ n. list_all (λ g. is_enough question.now g n) arguments.now) (λ n. truth_of_connective Connective.Imply 0 0 (map (λ g. truth_at question.now g n) arguments.now)) memo.new result }
 {
     match arguments {
         [premise, conclusion] => {

@@ -8,18 +8,12 @@ mod event_index;
 mod expansion;
 mod memo;
 mod occurrence;
-mod questions;
 mod ranking;
-mod recording;
 mod target_truth;
 mod tops;
 
 pub use event_index::EventIndex;
 pub use expansion::expand_plain;
-pub use questions::ranks_decide_truth;
 pub use ranking::rank;
 pub use target_truth::TargetTruth;
 pub use tops::top_events;
-
-#[cfg(test)]
-mod tests;

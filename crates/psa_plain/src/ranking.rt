@@ -3,7 +3,7 @@ ghost use Rattle.std.specs.List.{list_all, flat_map, list_any};
 ghost use Rattle.std.specs.HashSet.{contains};
 ghost use Rattle.psa_model.specs.declared.formula.Formula.TheVariants as variant;
 ghost use Rattle.psa_model.specs.Events.{events_of};
-ghost use Rattle.psa_model.specs.Ranks.{visits, AreRanks};
+ghost use Rattle.psa_model.specs.Ranks.{visits, ranks_of};
 ghost use Rattle.psa_model.specs.Truth.{within, IsResolved};
 ghost use Rattle.psa_plain.specs.Index.{IsIndex};
 ghost use Rattle.psa_plain.specs.Ranking.{IsSound, Agrees, Ranked, RanksMore, numbers, ranked};
@@ -45,7 +45,7 @@ pub fn rank(
     requires resolved { IsResolved expanded.now.model }
     requires index { IsIndex expanded.now index.now }
     requires top { IsTop expanded.now target.now }
-    ensures { IfOk result (λ ranks. AreRanks expanded.now target.now ranks) }
+    ensures { IfOk result (λ ranks. ranks ≡ ranks_of expanded.now target.now) }
 {
     match target {
         Target::TopEvent(gate) => {

@@ -1,6 +1,5 @@
 use Rattle.std.proofs.Common.{◌≡◌, ◌≤◌, arith, ap, ◌∙◌, sym, map, length}
 use Rattle.psa_logic.specs.Products.{positive_product}
-use Rattle.psa_model.specs.Report.{section_text}
 use Rattle.psa_plain.specs.Targets.{truth_of}
 use Rattle.psa_model.specs.Targets.{truth_by_rank}
 use Rattle.psa_engine.proofs.Few.{ranks-few, ranks-decide, section-found, IfOk-then}
@@ -26,8 +25,8 @@ pub returns : goal.returns
 returns c =
     IfOk-then _ _ c.section_bytes.result
     (λ text spelled.
-    section-found c.args.expanded.now c.args.target.now c.in_ok-ranks.ranks (truth_of c.in_ok-truth.truth) c.in_ok-sets.sets text.items
-    c.in_ok-ranks.ensures
+    section-found c.args.settings.now c.args.expanded.now c.args.target.now c.in_ok-ranks.ranks (truth_of c.in_ok-truth.truth) c.in_ok-sets.sets text.items
+    c.requires.settings c.in_ok-ranks.ensures
     (c.in_ok-truth.ensures ∙ ap (truth_by_rank c.args.expanded.now c.args.target.now) (c.in_ok-asked_ranks.ensures ∙ c.as_slice.ensures))
     c.in_ok-sets.ensures
     (rw (c.as_slice-2.ensures, c.as_slice-3.ensures) at spelled))

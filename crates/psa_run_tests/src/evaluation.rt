@@ -1,10 +1,10 @@
 ghost use Rattle.std.specs.Prelude.{◌≤◌, ◌^◌, length, IfSome};
 
-use crate::{EventIndex, expand_plain, top_events};
 use psa_model::{
     BasicEvent, Connective, EventId, ExpandedEvent, FaultTreeId, Formula, Gate, GateId, Model,
     Place, Target,
 };
+use psa_plain::{EventIndex, expand_plain, top_events};
 use psa_text::{Items, OutOfMemory, Text};
 use std::alloc::Global;
 use std::test::Fail;

@@ -1,4 +1,4 @@
-use super::*;
+use psa_first_reader::read_first_model;
 use psa_model::{Connective, Formula, Model, Valued};
 use psa_text::{OutOfMemory, first_document};
 use std::alloc::Global;

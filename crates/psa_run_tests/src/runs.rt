@@ -1,6 +1,6 @@
 ghost use Rattle.std.specs.Prelude.{◌<◌};
 
-use crate::{Status, analyse_words};
+use psa_engine::{Status, analyse_words};
 use psa_ports::{MemoryFolder, MemorySink};
 use psa_text::{Items, OutOfMemory, Text};
 use std::alloc::Global;

@@ -1,0 +1,10 @@
+//! Tests of the public calls of psa_first_reader, psa_plain and psa_engine: the reading of a first model,
+//! its evaluation, and whole runs.
+#![tactic(auto)]
+
+#[cfg(test)]
+mod evaluation;
+#[cfg(test)]
+mod reading;
+#[cfg(test)]
+mod runs;
