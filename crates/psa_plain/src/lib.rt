@@ -8,7 +8,9 @@ mod event_index;
 mod expansion;
 mod memo;
 mod occurrence;
+mod questions;
 mod ranking;
+mod recording;
 mod target_truth;
 mod tops;
 
