@@ -17,6 +17,7 @@ use Rattle.psa_model.specs.Report.{Analysis, IsReport}
 use Rattle.psa_first_reader.specs.Reading.{first_model}
 use Rattle.psa_plain.specs.Expansion.{plain_events}
 use Rattle.psa_ports.specs.Sink.{AppendsPrefix}
+use Rattle.psa_words.specs.declared.limits.TheConstants.{DEFAULT_LIMIT_ORDER}
 use Rattle.psa_words.specs.Given.{default_mission}
 
 -- the model that the bytes of a file say, or None where they are no first text
@@ -32,7 +33,7 @@ abbrev pub first_settings : List ℕ → Settings
 first_settings name = record {
   algorithm = Bdd;
   mode = CutSets;
-  limit_order = 20;
+  limit_order = DEFAULT_LIMIT_ORDER;
   cut_off = None;
   mission = default_mission;
   rare_event = false;

@@ -4,13 +4,8 @@ ghost use Rattle.psa_engine.specs.FirstModel.{first_settings as settings_of_file
 use psa_model::{Algorithm, Input, Mode, Settings};
 use psa_number::Decimal;
 use psa_text::{Items, OutOfMemory, Text};
+use psa_words::{DEFAULT_LIMIT_ORDER, DEFAULT_MISSION_TIME};
 use std::alloc::Global;
-
-/// The greatest number of events of a listed minimal cut set.
-const LIMIT_ORDER: u8 = 20;
-
-/// The mission time, in the unit of the model's rates: the hours of a year.
-const MISSION_TIME: u32 = 8760;
 
 /// What a run over the file `name` asks for: the minimal cut sets of at most 20 events, and no
 /// quantities. Fails where memory is wanting.
@@ -22,9 +17,9 @@ pub fn first_settings(alloc: Global, name: &str) -> Result<Settings, OutOfMemory
     Ok(Settings {
         algorithm: Algorithm::Bdd,
         mode: Mode::CutSets,
-        limit_order: LIMIT_ORDER,
+        limit_order: DEFAULT_LIMIT_ORDER,
         cut_off: None,
-        mission: Decimal::from_whole(MISSION_TIME),
+        mission: Decimal::from_whole(DEFAULT_MISSION_TIME),
         rare_event: false,
         mcub: false,
         ccf: false,
