@@ -6,7 +6,7 @@ use Rattle.psa_text.specs.declared.tree.Element.{Element}
 use Rattle.psa_text.specs.declared.token.Token.{Token}
 use Rattle.psa_text.specs.Tree.{Item, IsDocument}
 use Rattle.psa_text.specs.Bytes.{line_feeds, line_after}
-use Rattle.psa_text.specs.Nesting.{State, at_start, nested, is_too_deep, stepped}
+use Rattle.psa_text.specs.Nesting.{State, at_start, deep_nesting_after, is_too_deep, nesting_after}
 use Rattle.psa_text.specs.Reading.{token_at, tree_from, tree_of}
 use Rattle.psa_text.specs.FirstText.{AreItems, no_item, and_item, IsFirstText}
 use Rattle.psa_text.proofs.Stands.{not_held, Stands, step_stands, starts, end_stands}
@@ -31,11 +31,11 @@ pub record HasRead (before : List ℕ) (line : ℕ) (s : State) : Type 0 where
 line_feeds_append : (a b : List ℕ) → line_feeds (a ++ b) ≡ line_feeds a + line_feeds b
 line_feeds_append a b = sum_by-append (λ (c : ℕ). cond (eqb c 10) 1 0) a b
 
-one_more : (before : List ℕ) (line : ℕ) (s next : State) (bytes : List ℕ) (x : Token × List ℕ) → HasRead before line s → token_at bytes ≡ Some x → stepped x.0 line s ≡ Some next
+one_more : (before : List ℕ) (line : ℕ) (s next : State) (bytes : List ℕ) (x : Token × List ℕ) → HasRead before line s → token_at bytes ≡ Some x → nesting_after x.0 line s ≡ Some next
     → (text : List ℕ) × HasRead (before ++ text) (line + line_feeds (take (length bytes - length x.1) bytes)) next × (bytes ≡ text ++ x.1)
 one_more before line s next bytes x read is step =
     let t = token_takes bytes x is in
-    let tests = not_held (is_too_deep x.0 s) (nested x.0 line s) next step in
+    let tests = not_held (is_too_deep x.0 s) (deep_nesting_after x.0 line s) next step in
     let len : length t.text ≡ length bytes - length x.1 = omega (arith, length-append t.text x.1, ap length t.parts) in
     let taken : take (length bytes - length x.1) bytes ≡ t.text = ap (λ (bs : List ℕ). take (length bytes - length x.1) bs) t.parts ∙ take_at t.text x.1 _ len in
     let behind : line + line_feeds (take (length bytes - length x.1) bytes) ≡ line_after (before ++ t.text) = omega (arith, read.at, line_feeds_append before t.text, ap line_feeds taken) in (
@@ -61,7 +61,7 @@ reads (suc turns) [] before line s root read h =
     }
 reads (suc turns) (b ∷ bytes) before line s root read h =
     with_ok (token_at (b ∷ bytes)) _ _ h (λ x x_is h1.
-    with_ok (stepped x.0 line s) _ _ h1 (λ next step h2.
+    with_ok (nesting_after x.0 line s) _ _ h1 (λ next step h2.
     let more = one_more before line s next (b ∷ bytes) x read x_is step in
     let whole : before ++ b ∷ bytes ≡ (before ++ more.0) ++ x.1 = ap (λ (bs : List ℕ). before ++ bs) more.2 ∙ sym (append_assoc before more.0 x.1) in
     subst (λ (bs : List ℕ). Spells bs root) (sym whole) (reads turns x.1 (before ++ more.0) _ next root more.1 h2)))

@@ -7,7 +7,7 @@ use Rattle.psa_text.specs.declared.token.Tag.{Tag}
 use Rattle.psa_text.specs.declared.token.Token.{Token}
 use Rattle.psa_text.specs.declared.token.Token.TheVariants.{Start, Empty, End, Passed}
 use Rattle.psa_text.specs.Tree.{Item, element_of, IsElement, is_empty, is_around, AreElements, no_element, and_passed, and_element}
-use Rattle.psa_text.specs.Nesting.{State, with_child, placed_in, nested, finished}
+use Rattle.psa_text.specs.Nesting.{State, with_child, nesting_with_in, deep_nesting_after, finished_root}
 
 pub some_same : {A : Type 0} (x y : A) → Some x ≡ Some y → x ≡ y
 some_same x y e = cc
@@ -56,17 +56,17 @@ before_root _ (none_open items are) = are
 
 -- a whole element, wherever it belongs
 placed_stands : (before : List Item) (outer : List Element) (one : List Item) (element : Element) → IsOpen before outer → IsElement one element
-    → Stands (before ++ one) (placed_in element outer None).root (placed_in element outer None).open_elements
+    → Stands (before ++ one) (nesting_with_in element outer None).root (nesting_with_in element outer None).open_elements
 placed_stands before [] one element stands is = and_element before [] one element (before_root before stands) is
 placed_stands before (parent ∷ outer) one element stands is = inside_of before parent outer one element stands is
 
 -- an end tag
 ends : (items : List Item) (line : ℕ) (name : List ℕ) (element : Element) (outer : List Element) → IsOpen items (element ∷ outer) → (out-Element element).tag ≡ name
-    → Stands (items ++ (End name, line) ∷ []) (placed_in element outer None).root (placed_in element outer None).open_elements
+    → Stands (items ++ (End name, line) ∷ []) (nesting_with_in element outer None).root (nesting_with_in element outer None).open_elements
 ends _ line name _ _ (one_open before outer tag at inside children around are) same =
     let named : tag.name ≡ name = sym (ap (λ layer. layer.tag) (out-roll-Element _)) ∙ same in
     let whole : IsElement (((Start tag, at) ∷ inside) ++ (End name, line) ∷ []) (element_of tag at children) = subst (λ (n : List ℕ). IsElement (((Start tag, at) ∷ inside) ++ (End n, line) ∷ []) (element_of tag at children)) named (is_around tag at inside children line are) in
-    let placed = placed_in (element_of tag at children) outer None in
+    let placed = nesting_with_in (element_of tag at children) outer None in
     subst (λ (items : List Item). Stands items placed.root placed.open_elements) (sym (append_assoc before ((Start tag, at) ∷ inside) ((End name, line) ∷ [])))
     (placed_stands before outer (((Start tag, at) ∷ inside) ++ (End name, line) ∷ []) (element_of tag at children) around whole)
 
@@ -74,7 +74,7 @@ same_bytes : (xs ys : List ℕ) → bytes_eq xs ys ≡ true → xs ≡ ys
 same_bytes xs ys e = (bytes_eq-Decides xs ys).0 e
 
 nested_stands : (token : Token) (line : ℕ) (items : List Item) (root : Option Element) (elements : List Element) (next : State) → Stands items root elements
-    → nested token line (record { open_elements = elements; root = root }) ≡ Some next → Stands (items ++ (token, line) ∷ []) next.root next.open_elements
+    → deep_nesting_after token line (record { open_elements = elements; root = root }) ≡ Some next → Stands (items ++ (token, line) ∷ []) next.root next.open_elements
 nested_stands (Start tag) line items None elements next stands h =
     subst (λ (s : State). Stands (items ++ (Start tag, line) ∷ []) s.root s.open_elements) (some_same _ _ h) (one_open items elements tag line [] [] stands no_element)
 nested_stands (Start tag) line items (Some root) elements next stands h = absurd (cc)
@@ -84,7 +84,7 @@ nested_stands (Empty tag) line items None elements next stands h =
 nested_stands (Empty tag) line items (Some root) elements next stands h = absurd (cc)
 nested_stands (End name) line items None [] next stands h = absurd (cc)
 nested_stands (End name) line items None (element ∷ outer) next stands h =
-    let test = held (bytes_eq (out-Element element).tag name) (Some (placed_in element outer None)) next h in
+    let test = held (bytes_eq (out-Element element).tag name) (Some (nesting_with_in element outer None)) next h in
     subst (λ (s : State). Stands (items ++ (End name, line) ∷ []) s.root s.open_elements) (some_same _ _ test.1)
     (ends items line name element outer stands (same_bytes _ _ test.0))
 nested_stands (End name) line items (Some root) [] next stands h = absurd (cc)
@@ -97,17 +97,17 @@ nested_stands Passed line items (Some root) (element ∷ outer) next stands h = 
 
 -- The state after one more item stands where the items with this one do.
 pub step_stands : (token : Token) (line : ℕ) (items : List Item) (s next : State) → Stands items s.root s.open_elements
-    → nested token line s ≡ Some next → Stands (items ++ (token, line) ∷ []) next.root next.open_elements
+    → deep_nesting_after token line s ≡ Some next → Stands (items ++ (token, line) ∷ []) next.root next.open_elements
 step_stands token line items s next stands h = nested_stands token line items s.root s.open_elements next stands h
 
 pub starts : Stands [] None []
 starts = none_open [] no_element
 
-finished_stands : (items : List Item) (root : Option Element) (elements : List Element) (found : Element) → Stands items root elements → finished (record { open_elements = elements; root = root }) ≡ Some found → AreElements items (found ∷ [])
+finished_stands : (items : List Item) (root : Option Element) (elements : List Element) (found : Element) → Stands items root elements → finished_root (record { open_elements = elements; root = root }) ≡ Some found → AreElements items (found ∷ [])
 finished_stands items None [] found stands h = absurd (cc)
 finished_stands items None (element ∷ outer) found stands h = absurd (cc)
 finished_stands items (Some root) [] found stands h = subst (λ (e : Element). AreElements items (e ∷ [])) (some_same _ _ h) stands
 finished_stands items (Some root) (element ∷ outer) found stands h = absurd stands
 
-pub end_stands : (items : List Item) (s : State) (found : Element) → Stands items s.root s.open_elements → finished s ≡ Some found → AreElements items (found ∷ [])
+pub end_stands : (items : List Item) (s : State) (found : Element) → Stands items s.root s.open_elements → finished_root s ≡ Some found → AreElements items (found ∷ [])
 end_stands items s found stands h = finished_stands items s.root s.open_elements found stands h

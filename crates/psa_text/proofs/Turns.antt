@@ -7,7 +7,7 @@ use Rattle.psa_text.specs.declared.token.StepError.TheVariants.{Refused, Memory}
 use Rattle.psa_text.specs.declared.tree.Element.{Element}
 use Rattle.psa_text.specs.Steps.{◌>>=◌, Gives}
 use Rattle.psa_text.specs.Bytes.{line_feeds}
-use Rattle.psa_text.specs.Nesting.{State, stepped, finished}
+use Rattle.psa_text.specs.Nesting.{State, nesting_after, finished_root}
 use Rattle.psa_text.specs.Reading.{token_at, tree_from, tree_of}
 
 -- the line behind an item, of which rest stands behind
@@ -25,7 +25,7 @@ begins bytes line s e = record { turns = length bytes + 1; enough = omega arith;
 
 -- one turn
 pub turn : (turns : ℕ) (bytes : List ℕ) (line : ℕ) (s : State) → 0 < length bytes
-    → tree_from (suc turns) bytes line s ≡ (token_at bytes >>= (λ item. stepped item.0 line s >>= (λ next. tree_from turns item.1 (line_behind bytes item.1 line) next)))
+    → tree_from (suc turns) bytes line s ≡ (token_at bytes >>= (λ item. nesting_after item.0 line s >>= (λ next. tree_from turns item.1 (line_behind bytes item.1 line) next)))
 unfolding tree_from
 turn turns [] line s h = absurd (omega arith)
 turn turns (b ∷ bytes) line s h = refl
@@ -36,11 +36,11 @@ some_turns (suc less) n h = (less, refl, omega arith)
 
 -- the same, where the number of turns is only known to be one more
 first_turn : (turns less : ℕ) (bytes : List ℕ) (line : ℕ) (s : State) → turns ≡ suc less → 0 < length bytes
-    → tree_from turns bytes line s ≡ (token_at bytes >>= (λ item. stepped item.0 line s >>= (λ next. tree_from less item.1 (line_behind bytes item.1 line) next)))
+    → tree_from turns bytes line s ≡ (token_at bytes >>= (λ item. nesting_after item.0 line s >>= (λ next. tree_from less item.1 (line_behind bytes item.1 line) next)))
 first_turn turns less bytes line s e some = ap (λ (n : ℕ). tree_from n bytes line s) e ∙ turn less bytes line s some
 
 pub goes_on : (bytes rest after : List ℕ) (line : ℕ) (s next : State) (token : Token) → LeadsTo bytes rest line s → 0 < length rest → length after < length rest
-    → token_at rest ≡ Some (token, after) → stepped token line s ≡ Some next → LeadsTo bytes after (line_behind rest after line) next
+    → token_at rest ≡ Some (token, after) → nesting_after token line s ≡ Some next → LeadsTo bytes after (line_behind rest after line) next
 goes_on bytes rest after line s next token way some shorter read step =
     let less = some_turns way.turns (length rest) way.enough in
     let one : tree_from way.turns rest line s ≡ tree_from less.0 after (line_behind rest after line) next = first_turn way.turns less.0 rest line s less.1 some ∙ rw (read, step) refl in
@@ -55,20 +55,20 @@ refused_item bytes rest line s Refused way some refused =
 refused_item bytes rest line s Memory way some refused = tt
 
 -- a step that is refused
-pub refused_step : (bytes rest after : List ℕ) (line : ℕ) (s : State) (token : Token) (e : StepError) → LeadsTo bytes rest line s → 0 < length rest → token_at rest ≡ Some (token, after) → Gives {X = State} (λ x. x) (Err e) (stepped token line s) → Gives {X = Element} (λ root. root) (Err e) (tree_of bytes)
+pub refused_step : (bytes rest after : List ℕ) (line : ℕ) (s : State) (token : Token) (e : StepError) → LeadsTo bytes rest line s → 0 < length rest → token_at rest ≡ Some (token, after) → Gives {X = State} (λ x. x) (Err e) (nesting_after token line s) → Gives {X = Element} (λ root. root) (Err e) (tree_of bytes)
 refused_step bytes rest after line s token Refused way some read refused =
     let less = some_turns way.turns (length rest) way.enough in
     let one : tree_from way.turns rest line s ≡ None = first_turn way.turns less.0 rest line s less.1 some ∙ rw (read, refused) refl in
     sym way.same ∙ one
 refused_step bytes rest after line s token Memory way some read refused = tt
 
-at_end : (turns : ℕ) (bytes : List ℕ) (line : ℕ) (s : State) → length bytes ≡ 0 → 0 < turns → tree_from turns bytes line s ≡ finished s
+at_end : (turns : ℕ) (bytes : List ℕ) (line : ℕ) (s : State) → length bytes ≡ 0 → 0 < turns → tree_from turns bytes line s ≡ finished_root s
 unfolding tree_from
 at_end zero bytes line s e some = absurd (omega arith)
 at_end (suc turns) [] line s e some = refl
 at_end (suc turns) (b ∷ bytes) line s e some = absurd (omega (arith, e))
 
-pub ended : (bytes rest : List ℕ) (line : ℕ) (s : State) → LeadsTo bytes rest line s → length rest ≡ 0 → tree_of bytes ≡ finished s
+pub ended : (bytes rest : List ℕ) (line : ℕ) (s : State) → LeadsTo bytes rest line s → length rest ≡ 0 → tree_of bytes ≡ finished_root s
 ended bytes rest line s way e = sym way.same ∙ at_end way.turns rest line s e (omega (arith, way.enough))
 
 pub root_or_refused : (found tree : Option Element) → tree ≡ found → Gives {X = Element} (λ root. root) (ok_or found Refused) tree

@@ -8,9 +8,4 @@ pub mod TextBytes
 pub mod TextItems
 pub mod TextTree
 pub mod TextFaults
-pub mod ScannerMachine
-pub mod ScannerView
-pub mod ScannerNesting
-pub mod ScannerBounds
-pub mod ScannerState
-pub mod ScannerSpans
+pub mod scanner

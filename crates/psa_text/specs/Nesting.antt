@@ -23,27 +23,27 @@ abbrev pub with_child : Element → Element → Element
 with_child parent child = roll-Element (record (out-Element parent) { children = (out-Element parent).children ++ child ∷ [] })
 
 -- A whole element is the last in the innermost open element, or else the root.
-abbrev pub placed_in : Element → List Element → Option Element → State
-placed_in element [] root = record { open_elements = []; root = Some element }
-placed_in element (parent ∷ outer) root = record { open_elements = with_child parent element ∷ outer; root = root }
+abbrev pub nesting_with_in : Element → List Element → Option Element → State
+nesting_with_in element [] root = record { open_elements = []; root = Some element }
+nesting_with_in element (parent ∷ outer) root = record { open_elements = with_child parent element ∷ outer; root = root }
 
-abbrev pub placed : Element → State → State
-placed element s = placed_in element s.open_elements s.root
+abbrev pub nesting_with : Element → State → State
+nesting_with element s = nesting_with_in element s.open_elements s.root
 
 -- An end tag ends the innermost open element, which has its name.
-abbrev pub closed_in : List ℕ → List Element → Option Element → Option State
-closed_in name [] root = None
-closed_in name (element ∷ outer) root = if bytes_eq (out-Element element).tag name then Some (placed_in element outer root) else None
+abbrev pub nesting_after_end_in : List ℕ → List Element → Option Element → Option State
+nesting_after_end_in name [] root = None
+nesting_after_end_in name (element ∷ outer) root = if bytes_eq (out-Element element).tag name then Some (nesting_with_in element outer root) else None
 
-abbrev pub closed : List ℕ → State → Option State
-closed name s = closed_in name s.open_elements s.root
+abbrev pub nesting_after_end : List ℕ → State → Option State
+nesting_after_end name s = nesting_after_end_in name s.open_elements s.root
 
 -- The state after one more item, None where it does not fit. No element begins behind the root's end.
-abbrev pub nested : Token → ℕ → State → Option State
-nested (Start tag) line s = if is_some s.root then None else Some (record { open_elements = element_of tag line [] ∷ s.open_elements; root = s.root })
-nested (Empty tag) line s = if is_some s.root then None else Some (placed (element_of tag line []) s)
-nested (End name) line s = closed name s
-nested Passed line s = Some s
+abbrev pub deep_nesting_after : Token → ℕ → State → Option State
+deep_nesting_after (Start tag) line s = if is_some s.root then None else Some (record { open_elements = element_of tag line [] ∷ s.open_elements; root = s.root })
+deep_nesting_after (Empty tag) line s = if is_some s.root then None else Some (nesting_with (element_of tag line []) s)
+deep_nesting_after (End name) line s = nesting_after_end name s
+deep_nesting_after Passed line s = Some s
 
 -- The item would begin an element at depth 65.
 abbrev pub is_too_deep : Token → State → Bool
@@ -53,13 +53,13 @@ is_too_deep (End name) s = false
 is_too_deep Passed s = false
 
 -- the same, with the greatest depth
-abbrev pub stepped : Token → ℕ → State → Option State
-stepped token line s = if is_too_deep token s then None else nested token line s
+abbrev pub nesting_after : Token → ℕ → State → Option State
+nesting_after token line s = if is_too_deep token s then None else deep_nesting_after token line s
 
 -- the root, where it has ended and nothing is open
-abbrev pub finished_with : List Element → Option Element → Option Element
-finished_with [] root = root
-finished_with (element ∷ outer) root = None
+abbrev pub finished_root_of : List Element → Option Element → Option Element
+finished_root_of [] root = root
+finished_root_of (element ∷ outer) root = None
 
-abbrev pub finished : State → Option Element
-finished s = finished_with s.open_elements s.root
+abbrev pub finished_root : State → Option Element
+finished_root s = finished_root_of s.open_elements s.root

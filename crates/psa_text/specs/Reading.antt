@@ -9,7 +9,7 @@ use Rattle.psa_text.specs.declared.token.Token.{Token}
 use Rattle.psa_text.specs.declared.token.Token.TheVariants.{Start, Empty, End, Passed}
 use Rattle.psa_text.specs.Steps.{◌>>=◌}
 use Rattle.psa_text.specs.Bytes.{begins_name, run_len, skip_blanks, line_feeds}
-use Rattle.psa_text.specs.Nesting.{State, at_start, stepped, finished}
+use Rattle.psa_text.specs.Nesting.{State, at_start, nesting_after, finished_root}
 
 -- the bytes behind this byte
 abbrev pub byte_at : ℕ → List ℕ → Option (List ℕ)
@@ -68,10 +68,10 @@ token_at bytes = if nat_lt 0 (run_len Blank bytes) then Some (Passed, skip_blank
 -- items than bytes.
 unfoldable pub tree_from : ℕ → List ℕ → ℕ → State → Option Element
 tree_from zero bytes line s = None
-tree_from (suc turns) [] line s = finished s
+tree_from (suc turns) [] line s = finished_root s
 tree_from (suc turns) (b ∷ bytes) line s = do
   item ← token_at (b ∷ bytes)
-  next ← stepped item.0 line s
+  next ← nesting_after item.0 line s
   tree_from turns item.1 (line + line_feeds (take (length (b ∷ bytes) - length item.1) (b ∷ bytes))) next
 
 abbrev pub tree_of : List ℕ → Option Element

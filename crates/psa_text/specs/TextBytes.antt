@@ -70,8 +70,8 @@ IsDigitValue base b (Some value) = (is_digit_of base b ≡ true) × (value ≡ d
 IsDigitValue base b None = is_digit_of base b ≡ false
 
 -- the number that digits spell in a base, behind those of a number
-abbrev pub spelled_behind : ℕ → ℕ → List ℕ → ℕ
-spelled_behind base number digits = fold (λ n b. base * n + digit_of b) number digits
+abbrev pub number_behind : ℕ → ℕ → List ℕ → ℕ
+number_behind base number digits = fold (λ n b. base * n + digit_of b) number digits
 
 -- a character that a reference may stand for: a Unicode scalar value other than 0
 abbrev pub is_character : ℕ → Bool

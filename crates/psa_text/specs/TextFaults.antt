@@ -5,11 +5,11 @@ use Rattle.std.specs.Prelude.{◌≡◌, ◌≢◌, ℕ, ◌<◌, ◌≤◌, Boo
 use Rattle.std.specs.Str.{is_utf8}
 use Rattle.psa_text.specs.declared.tree.Element.{Element}
 use Rattle.psa_text.specs.declared.token.Tag.{Tag}
-use Rattle.psa_text.specs.declared.scanner_item.Item.{Item}
-use Rattle.psa_text.specs.declared.scanner_item.Item.TheVariants.{Start, Empty, End, Doctype, Text, Comment, Instruction}
-use Rattle.psa_text.specs.declared.scanner_error.TextFault.{TextFault}
-use Rattle.psa_text.specs.declared.scanner_error.TextKind.{TextKind}
-use Rattle.psa_text.specs.declared.scanner_error.TextKind.TheVariants.{LongFile, BadMarkup, LongToken, BadNesting}
+use Rattle.psa_text.specs.declared.scanner.item.Item.{Item}
+use Rattle.psa_text.specs.declared.scanner.item.Item.TheVariants.{Start, Empty, End, Doctype, Text, Comment, Instruction}
+use Rattle.psa_text.specs.declared.scanner.error.TextFault.{TextFault}
+use Rattle.psa_text.specs.declared.scanner.error.TextKind.{TextKind}
+use Rattle.psa_text.specs.declared.scanner.error.TextKind.TheVariants.{LongFile, BadMarkup, LongToken, BadNesting}
 use Rattle.psa_text.specs.TextBytes.{AllPass, AreBlanks, IsName, is_character, is_name_start, is_name_byte, line_after}
 use Rattle.psa_text.specs.TextItems.{IsReference, IsRaw, IsOpening, IsHead, IsItem, Placed, AreItems, IsFront}
 use Rattle.psa_text.specs.TextTree.{IsDocument, IsDocumentFront}

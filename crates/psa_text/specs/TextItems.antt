@@ -6,9 +6,9 @@
 -- What it lets through is refused by TextFaults.
 use Rattle.std.specs.Prelude.{◌≡◌, ◌≢◌, ℕ, ◌≤◌, Bool, true, false, if◌then◌else◌, ◌==◌, ◌&&◌, List, [], ◌∷◌, ◌++◌, length, drop, Option, Some, None, encode_utf8}
 use Rattle.psa_text.specs.declared.token.Tag.{Tag}
-use Rattle.psa_text.specs.declared.scanner_item.Item.{Item}
-use Rattle.psa_text.specs.declared.scanner_item.Item.TheVariants.{Start, Empty, End, Doctype, Text, Comment, Instruction}
-use Rattle.psa_text.specs.TextBytes.{AllPass, AreBlanks, IsName, is_blank, is_character, is_quote, is_doctype_byte, is_value_byte, is_digit_of, spaced, spelled_behind, trimmed, line_after}
+use Rattle.psa_text.specs.declared.scanner.item.Item.{Item}
+use Rattle.psa_text.specs.declared.scanner.item.Item.TheVariants.{Start, Empty, End, Doctype, Text, Comment, Instruction}
+use Rattle.psa_text.specs.TextBytes.{AllPass, AreBlanks, IsName, is_blank, is_character, is_quote, is_doctype_byte, is_value_byte, is_digit_of, spaced, number_behind, trimmed, line_after}
 
 -- `&`, and what is behind it: a reference, and the number of the character that it stands for
 pub data IsReference : List ℕ → ℕ → Type 0 where
@@ -17,19 +17,19 @@ pub data IsReference : List ℕ → ℕ → Type 0 where
   is_ampersand : IsReference (38 ∷ 97 ∷ 109 ∷ 112 ∷ 59 ∷ []) 38
   is_quotation : IsReference (38 ∷ 113 ∷ 117 ∷ 111 ∷ 116 ∷ 59 ∷ []) 34
   is_apostrophe : IsReference (38 ∷ 97 ∷ 112 ∷ 111 ∷ 115 ∷ 59 ∷ []) 39
-  is_decimal : (digits : List ℕ) → digits ≢ [] → length digits ≤ 8 → AllPass (is_digit_of 10) digits → IsReference (38 ∷ 35 ∷ (digits ++ (59 ∷ []))) (spelled_behind 10 0 digits)
-  is_hexadecimal : (digits : List ℕ) → digits ≢ [] → length digits ≤ 8 → AllPass (is_digit_of 16) digits → IsReference (38 ∷ 35 ∷ 120 ∷ (digits ++ (59 ∷ []))) (spelled_behind 16 0 digits)
+  is_decimal : (digits : List ℕ) → digits ≢ [] → length digits ≤ 8 → AllPass (is_digit_of 10) digits → IsReference (38 ∷ 35 ∷ (digits ++ (59 ∷ []))) (number_behind 10 0 digits)
+  is_hexadecimal : (digits : List ℕ) → digits ≢ [] → length digits ≤ 8 → AllPass (is_digit_of 16) digits → IsReference (38 ∷ 35 ∷ 120 ∷ (digits ++ (59 ∷ []))) (number_behind 16 0 digits)
 
 -- What a reference to the number stands for: the bytes of its character. A number that is no character stands for
 -- U+FFFD, the replacement character, as in HTML; TextFaults refuses it.
-abbrev pub referred : ℕ → List ℕ
-referred code = encode_utf8 (if is_character code then code else 0xFFFD)
+abbrev pub bytes_of_reference : ℕ → List ℕ
+bytes_of_reference code = encode_utf8 (if is_character code then code else 0xFFFD)
 
 -- the quote, the bytes between the quotes, and what they stand for
 pub data IsRaw : ℕ → List ℕ → List ℕ → Type 0 where
   no_byte : (quote : ℕ) → IsRaw quote [] []
   and_byte : (quote : ℕ) (raw value : List ℕ) (b : ℕ) → IsRaw quote raw value → is_value_byte quote b ≡ true → IsRaw quote (raw ++ (b ∷ [])) (value ++ (spaced b ∷ []))
-  and_reference : (quote : ℕ) (raw value reference : List ℕ) (code : ℕ) → IsRaw quote raw value → IsReference reference code → IsRaw quote (raw ++ reference) (value ++ referred code)
+  and_reference : (quote : ℕ) (raw value reference : List ℕ) (code : ℕ) → IsRaw quote raw value → IsReference reference code → IsRaw quote (raw ++ reference) (value ++ bytes_of_reference code)
 
 -- what stands before an attribute's value: blanks, its name, `=` with blanks around it, and the quote
 pub record IsOpening (quote : ℕ) (name bytes : List ℕ) : Type 0 where

@@ -5,8 +5,8 @@ use Rattle.std.specs.Prelude.{◌≡◌, ℕ, suc, Bool, true, false, ◌||◌, 
 use Rattle.std.specs.Str.{bytes_eq}
 use Rattle.psa_text.specs.declared.tree.Element.{Element}
 use Rattle.psa_text.specs.declared.token.Tag.{Tag}
-use Rattle.psa_text.specs.declared.scanner_item.Item.{Item}
-use Rattle.psa_text.specs.declared.scanner_item.Item.TheVariants.{Start, Empty, End, Doctype, Text, Comment, Instruction}
+use Rattle.psa_text.specs.declared.scanner.item.Item.{Item}
+use Rattle.psa_text.specs.declared.scanner.item.Item.TheVariants.{Start, Empty, End, Doctype, Text, Comment, Instruction}
 use Rattle.psa_text.specs.Tree.{element_of}
 use Rattle.psa_text.specs.TextBytes.{AllPass, is_blank}
 use Rattle.psa_text.specs.TextItems.{Placed}

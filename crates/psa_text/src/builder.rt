@@ -1,11 +1,11 @@
 ghost use Rattle.std.specs.Prelude.{◌≡◌, [], Some};
 ghost use Rattle.psa_text.specs.Steps.{Gives};
 ghost use Rattle.psa_text.specs.Tree.{element_of};
-ghost use Rattle.psa_text.specs.ScannerNesting.{has_begun, in_label, nest};
-ghost use Rattle.psa_text.specs.Nesting.{at_start, closed, finished, is_too_deep, nested, placed, state_of, stepped};
+ghost use Rattle.psa_text.specs.scanner.Nesting.{has_begun, in_label, nesting_after_item};
+ghost use Rattle.psa_text.specs.Nesting.{at_start, nesting_after_end, finished_root, is_too_deep, deep_nesting_after, nesting_with, state_of, nesting_after};
 
-use crate::scanner_bytes::is_blank;
-use crate::scanner_item::Item;
+use crate::scanner::bytes::is_blank;
+use crate::scanner::item::Item;
 use crate::token::{StepError, Tag, Token};
 use crate::{Element, Items};
 use std::alloc::Global;
@@ -35,7 +35,7 @@ impl Builder {
     /// Takes the next item, which begins at `line`. Refused: where it does not fit, or where an
     /// element would begin at depth 65.
     pub fn step(&mut self, alloc: Global, token: Token, line: u32) -> Result<(), StepError>
-        ensures { Gives (λ _. state_of self.new) result (stepped token line (state_of self.old)) }
+        ensures { Gives (λ _. state_of self.new) result (nesting_after token line (state_of self.old)) }
     {
         if self.is_too_deep(&token) {
             return Err(StepError::Refused);
@@ -55,7 +55,7 @@ impl Builder {
 
     /// Takes the next item, at any depth. Refused: where it does not fit.
     pub fn nest(&mut self, alloc: Global, token: Token, line: u32) -> Result<(), StepError>
-        ensures { Gives (λ _. state_of self.new) result (nested token line (state_of self.old)) }
+        ensures { Gives (λ _. state_of self.new) result (deep_nesting_after token line (state_of self.old)) }
     {
         match token {
             Token::Start(tag) => self.open(alloc, tag, line),
@@ -67,7 +67,7 @@ impl Builder {
 
     /// Takes the next item of a scanned text, which begins at `line`. Refused: where it does not fit.
     pub fn step_item(&mut self, alloc: Global, item: Item, line: u32) -> Result<(), StepError>
-        ensures { Gives (λ _. state_of self.new) result (nest item line (state_of self.old)) }
+        ensures { Gives (λ _. state_of self.new) result (nesting_after_item item line (state_of self.old)) }
     {
         match item {
             Item::Start(tag) => self.step(alloc, Token::Start(tag), line),
@@ -101,7 +101,7 @@ impl Builder {
 
     /// The root, where it has ended and no element is open.
     pub fn finish(self) -> Option<Element>
-        ensures { result ≡ finished (state_of self) }
+        ensures { result ≡ finished_root (state_of self) }
     {
         if self.open_elements.is_empty() {
             self.root
@@ -111,7 +111,7 @@ impl Builder {
     }
 
     fn open(&mut self, alloc: Global, tag: Tag, line: u32) -> Result<(), StepError>
-        ensures { Gives (λ _. state_of self.new) result (nested (Token.Start tag) line (state_of self.old)) }
+        ensures { Gives (λ _. state_of self.new) result (deep_nesting_after (Token.Start tag) line (state_of self.old)) }
     {
         if self.root.is_some() {
             return Err(StepError::Refused);
@@ -121,7 +121,7 @@ impl Builder {
     }
 
     fn open_and_close(&mut self, alloc: Global, tag: Tag, line: u32) -> Result<(), StepError>
-        ensures { Gives (λ _. state_of self.new) result (nested (Token.Empty tag) line (state_of self.old)) }
+        ensures { Gives (λ _. state_of self.new) result (deep_nesting_after (Token.Empty tag) line (state_of self.old)) }
     {
         if self.root.is_some() {
             return Err(StepError::Refused);
@@ -130,7 +130,7 @@ impl Builder {
     }
 
     fn close(&mut self, name: &[u8]) -> Result<(), StepError>
-        ensures { Gives (λ _. state_of self.new) result (closed name.now (state_of self.old)) }
+        ensures { Gives (λ _. state_of self.new) result (nesting_after_end name.now (state_of self.old)) }
     {
         let Some(element) = self.open_elements.pop() else {
             return Err(StepError::Refused);
@@ -143,7 +143,7 @@ impl Builder {
 
     /// Puts a whole element where it belongs: last in the innermost open element, or as the root.
     fn place(&mut self, element: Element) -> Result<(), StepError>
-        ensures { Gives (λ _. state_of self.new) result (Some (placed element (state_of self.old))) }
+        ensures { Gives (λ _. state_of self.new) result (Some (nesting_with element (state_of self.old))) }
     {
         match self.open_elements.pop() {
             None => self.root = Some(element),

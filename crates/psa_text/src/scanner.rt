@@ -1,22 +1,29 @@
 ghost use Rattle.std.specs.Prelude.{◌≡◌, ◌++◌, ◌+◌, ◌<◌, ◌≤◌, [], List, ℕ, None, Ok, Err, IfErr, length};
-ghost use Rattle.psa_text.specs.declared.scanner_error.TextError.{TextError};
-ghost use Rattle.psa_text.specs.declared.scanner_mark.Mark.{Mark};
-ghost use Rattle.psa_text.specs.ScannerSpans.{CountsAll, IsBehind, ReadsSpan, is_quiet};
-ghost use Rattle.psa_text.specs.ScannerState.{Answers, Ends, HasFailed, HasRead, Passes, Steps, item_stepped, marked, on_nested, scan_of, stepped};
-ghost use Rattle.psa_text.specs.ScannerMachine as machine;
-ghost use Rattle.psa_text.specs.ScannerNesting.{in_label, nest};
-ghost use Rattle.psa_text.specs.ScannerView.{lex_of};
+ghost use Rattle.psa_text.specs.declared.scanner.error.TextError.{TextError};
+ghost use Rattle.psa_text.specs.declared.scanner.mark.Mark.{Mark};
+ghost use Rattle.psa_text.specs.scanner.Bounds.{IsBounded};
+ghost use Rattle.psa_text.specs.scanner.Machine as machine;
+ghost use Rattle.psa_text.specs.scanner.Nesting.{in_label, nesting_after_item};
+ghost use Rattle.psa_text.specs.scanner.View.{lex_of};
 ghost use Rattle.psa_text.specs.Nesting.{state_of};
 ghost use Rattle.psa_text.specs.TextFaults as faults;
 
+pub mod bytes;
+pub mod error;
+pub mod item;
+pub mod lexer;
+pub mod mark;
+pub mod name;
+pub mod place;
+pub mod spans;
+
 use crate::Document;
 use crate::builder::Builder;
-use crate::scanner_error::{TextError, TextFault, TextKind};
-use crate::scanner_item::Item;
-use crate::scanner_lexer::{Lexer, TokenError};
-use crate::scanner_mark::Mark;
-use crate::scanner_spans::{behind_blanks, from_first, line_ends};
-use crate::scanner_state::Scanner;
+use crate::scanner::error::{TextError, TextFault, TextKind};
+use crate::scanner::item::Item;
+use crate::scanner::lexer::{Lexer, TokenError};
+use crate::scanner::mark::Mark;
+use crate::scanner::spans::{behind_blanks, from_first, line_ends};
 use crate::token::StepError;
 use std::alloc::Global;
 
@@ -25,7 +32,30 @@ const MAX_BYTES: u32 = 67_108_864;
 /// The greatest number of elements of a text.
 const MAX_ELEMENTS: u32 = 1_000_000;
 
+/// Reads a text in pieces to its tree, or to its first fault. It keeps no earlier byte: beside the tree it
+/// holds one name of at most 64 bytes and one value of at most 512.
+#[derive(Drop)]
+pub struct Scanner {
+    lexer: Lexer,
+    builder: Builder,
+    mark: Mark,
+    /// How many bytes it has read.
+    count: u32,
+    /// The line of the next byte.
+    line: u32,
+    /// The line of the first byte of the item under way or next.
+    start: u32,
+    /// How many elements have begun.
+    elements: u32,
+    failed: Option<TextError>,
+    alloc: Global,
+    ghost bounded: { IsBounded count line elements },
+}
+
 impl Scanner {
+    ghost use Rattle.psa_text.specs.scanner.Spans.{CountsAll, IsBehind, ReadsSpan, is_quiet};
+    ghost use Rattle.psa_text.specs.scanner.State.{Answers, Ends, HasFailed, HasRead, Passes, Steps, scan_after_item_byte, scan_with_mark, scan_after_item, scan_of, scan_after};
+
     /// A scanner that has read nothing.
     pub fn new(alloc: Global) -> Scanner
         ensures { HasRead result [] }
@@ -156,7 +186,7 @@ impl Scanner {
     /// Reads one byte.
     fn step(&mut self, byte: u8) -> Result<(), TextError>
         requires { self.old.failed ≡ None }
-        ensures { Steps (stepped (scan_of self.old) byte) self.new result }
+        ensures { Steps (scan_after (scan_of self.old) byte) self.new result }
     {
         if self.count == MAX_BYTES {
             return Err(fault(TextKind::LongFile, self.line));
@@ -174,7 +204,7 @@ impl Scanner {
     fn pass_mark(&mut self, mark: Mark) -> Result<(), TextError>
         requires failed { self.old.failed ≡ None }
         requires room { self.old.count < 67108864 }
-        ensures { Steps (Ok (marked (scan_of self.old) mark)) self.new result }
+        ensures { Steps (Ok (scan_with_mark (scan_of self.old) mark)) self.new result }
     {
         self.mark = mark;
         self.count += 1;
@@ -185,7 +215,7 @@ impl Scanner {
     fn step_item(&mut self, byte: u8) -> Result<(), TextError>
         requires failed { self.old.failed ≡ None }
         requires room { self.old.count < 67108864 }
-        ensures { Steps (item_stepped (scan_of self.old) byte) self.new result }
+        ensures { Steps (scan_after_item_byte (scan_of self.old) byte) self.new result }
     {
         if self.elements == MAX_ELEMENTS && self.lexer.begins_tag(byte) {
             return Err(fault(TextKind::LongFile, self.line));
@@ -207,7 +237,7 @@ impl Scanner {
         requires failed { self.old.failed ≡ None }
         requires room { self.old.count < 67108864 }
         requires between { lex_of self.old.lexer ≡ machine.Between }
-        ensures { Steps (on_nested (scan_of self.old) byte item (nest item self.old.start (state_of self.old.builder))) self.new result }
+        ensures { Steps (scan_after_item (scan_of self.old) byte item (nesting_after_item item self.old.start (state_of self.old.builder))) self.new result }
     {
         let begun = u32::from(item.begins_element());
         match self.builder.step_item(self.alloc, item, self.start) {
