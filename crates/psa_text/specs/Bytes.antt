@@ -3,28 +3,29 @@
 use Rattle.std.specs.Prelude.{ℕ, suc, ◌+◌, ◌==◌, Bool, false, if◌then◌else◌, nat_le, ◌&&◌, ◌||◌, List, [], ◌∷◌, count_by, drop}
 use Rattle.psa_text.specs.declared.bytes.Class.{Class}
 use Rattle.psa_text.specs.declared.bytes.Class.TheVariants.{Blank, Name, Value}
+use Rattle.psa_text.specs.NamedBytes.{tab, line_feed, carriage_return, space, hyphen, full_stop, digit_zero, digit_nine, colon, upper_a, upper_z, underscore, lower_a, lower_z}
 
 -- space, tab, LF, CR
 abbrev pub is_blank : ℕ → Bool
-is_blank b = (b == 32) || (b == 9) || (b == 10) || (b == 13)
+is_blank b = (b == space) || (b == tab) || (b == line_feed) || (b == carriage_return)
 
 abbrev pub is_letter : ℕ → Bool
-is_letter b = (nat_le 65 b && nat_le b 90) || (nat_le 97 b && nat_le b 122)
+is_letter b = (nat_le upper_a b && nat_le b upper_z) || (nat_le lower_a b && nat_le b lower_z)
 
 abbrev pub is_digit : ℕ → Bool
-is_digit b = nat_le 48 b && nat_le b 57
+is_digit b = nat_le digit_zero b && nat_le b digit_nine
 
 -- a letter, `_` or `:`
 abbrev pub is_name_start : ℕ → Bool
-is_name_start b = is_letter b || ((b == 95) || (b == 58))
+is_name_start b = is_letter b || ((b == underscore) || (b == colon))
 
 -- one of these, a digit, `-` or `.`
 abbrev pub is_name_byte : ℕ → Bool
-is_name_byte b = is_name_start b || is_digit b || ((b == 45) || (b == 46))
+is_name_byte b = is_name_start b || is_digit b || ((b == hyphen) || (b == full_stop))
 
 -- a letter, a digit, `_` or `-`
 abbrev pub is_value_byte : ℕ → Bool
-is_value_byte b = is_letter b || is_digit b || ((b == 95) || (b == 45))
+is_value_byte b = is_letter b || is_digit b || ((b == underscore) || (b == hyphen))
 
 abbrev pub has : Class → ℕ → Bool
 has Blank b = is_blank b
@@ -45,7 +46,7 @@ abbrev pub skip_blanks : List ℕ → List ℕ
 skip_blanks bytes = drop (run_len Blank bytes) bytes
 
 abbrev pub line_feeds : List ℕ → ℕ
-line_feeds bytes = count_by (λ b. b == 10) bytes
+line_feeds bytes = count_by (λ b. b == line_feed) bytes
 
 -- the line of a byte that stands behind these: 1, and the LF bytes before it
 abbrev pub line_after : List ℕ → ℕ

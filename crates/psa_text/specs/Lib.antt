@@ -1,3 +1,4 @@
+pub mod NamedBytes
 pub mod Steps
 pub mod Tree
 pub mod Nesting

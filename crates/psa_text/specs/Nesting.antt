@@ -6,6 +6,7 @@ use Rattle.psa_text.specs.declared.token.Token.{Token}
 use Rattle.psa_text.specs.declared.token.Token.TheVariants.{Start, Empty, End, Passed}
 use Rattle.psa_text.specs.declared.builder.Builder.{Builder}
 use Rattle.psa_text.specs.Tree.{element_of}
+use Rattle.psa_text.specs.declared.limits.TheConstants.{MAX_DEPTH}
 
 -- the elements that have begun and not ended, innermost first, and the root once it has ended
 pub record State : Type 0 where
@@ -45,10 +46,10 @@ deep_nesting_after (Empty tag) line s = if is_some s.root then None else Some (n
 deep_nesting_after (End name) line s = nesting_after_end name s
 deep_nesting_after Passed line s = Some s
 
--- The item would begin an element at depth 65.
+-- The item would begin an element at a greater depth than `MAX_DEPTH`.
 abbrev pub is_too_deep : Token → State → Bool
-is_too_deep (Start tag) s = nat_le 64 (length s.open_elements)
-is_too_deep (Empty tag) s = nat_le 64 (length s.open_elements)
+is_too_deep (Start tag) s = nat_le MAX_DEPTH (length s.open_elements)
+is_too_deep (Empty tag) s = nat_le MAX_DEPTH (length s.open_elements)
 is_too_deep (End name) s = false
 is_too_deep Passed s = false
 

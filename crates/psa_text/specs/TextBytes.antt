@@ -1,29 +1,29 @@
 -- The bytes of a text and their classes. (XML 1.0, productions 3 to 5, 25, 66 and 68; that a byte of 128 or more may
 -- stand anywhere in a name, and the greatest numbers of digits, are this project's own.)
 use Rattle.std.specs.Prelude.{◌≡◌, ℕ, ◌+◌, ◌*◌, ◌-◌, Bool, true, false, if◌then◌else◌, not, ◌&&◌, ◌||◌, ◌==◌, nat_le, nat_lt, List, [], ◌∷◌, reverse, count_by, Option, Some, None, ◌<◌}
-use Rattle.std.specs.List.{fold}
+use Rattle.std.specs.List.{AllByRecursion, fold}
+use Rattle.psa_text.specs.NamedBytes.{tab, line_feed, carriage_return, space, quotation_mark, ampersand, apostrophe, hyphen, full_stop, digit_zero, digit_nine, colon, less_than, greater_than, upper_a, upper_f, upper_z, left_bracket, underscore, lower_a, lower_f, lower_z, first_beyond_ascii}
 
 -- each passes the test
 abbrev pub AllPass : {X : Type 0} → (X → Bool) → List X → Type 0
-AllPass test [] = Unit {0}
-AllPass test (x ∷ xs) = (test x ≡ true) × AllPass test xs
+AllPass test xs = AllByRecursion (λ x. test x ≡ true) xs
 
 -- space, tab, CR and LF
 abbrev pub is_blank : ℕ → Bool
-is_blank b = (b == 32) || (b == 9) || (b == 13) || (b == 10)
+is_blank b = (b == space) || (b == tab) || (b == carriage_return) || (b == line_feed)
 
 abbrev pub AreBlanks : List ℕ → Type 0
 AreBlanks bytes = AllPass is_blank bytes
 
 abbrev pub is_digit : ℕ → Bool
-is_digit b = nat_le 48 b && nat_le b 57
+is_digit b = nat_le digit_zero b && nat_le b digit_nine
 
 -- a letter, `_`, `:`, or a byte of 128 or more
 abbrev pub is_name_start : ℕ → Bool
-is_name_start b = (nat_le 97 b && nat_le b 122) || (nat_le 65 b && nat_le b 90) || (b == 95) || (b == 58) || nat_le 128 b
+is_name_start b = (nat_le lower_a b && nat_le b lower_z) || (nat_le upper_a b && nat_le b upper_z) || (b == underscore) || (b == colon) || nat_le first_beyond_ascii b
 
 abbrev pub is_name_byte : ℕ → Bool
-is_name_byte b = is_name_start b || is_digit b || (b == 45) || (b == 46)
+is_name_byte b = is_name_start b || is_digit b || (b == hyphen) || (b == full_stop)
 
 abbrev pub IsName : List ℕ → Type 0
 IsName [] = ⊥
@@ -31,24 +31,24 @@ IsName (b ∷ bs) = (is_name_start b ≡ true) × AllPass is_name_byte bs
 
 -- `"` and `'`
 abbrev pub is_quote : ℕ → Bool
-is_quote b = (b == 34) || (b == 39)
+is_quote b = (b == quotation_mark) || (b == apostrophe)
 
 -- a byte in a doctype behind its blank
 abbrev pub is_doctype_byte : ℕ → Bool
-is_doctype_byte b = not ((b == 62) || (b == 91) || (b == 60))
+is_doctype_byte b = not ((b == greater_than) || (b == left_bracket) || (b == less_than))
 
 -- a byte that a value holds as itself: not its quote, `&` or `<`
 abbrev pub is_value_byte : ℕ → ℕ → Bool
-is_value_byte quote b = not ((b == quote) || (b == 38) || (b == 60))
+is_value_byte quote b = not ((b == quote) || (b == ampersand) || (b == less_than))
 
 -- A tab, CR or LF in a value counts as a space. (XML 1.0, section 3.3.3)
 abbrev pub spaced : ℕ → ℕ
-spaced b = if is_blank b then 32 else b
+spaced b = if is_blank b then space else b
 
 -- without the spaces at the front
 abbrev pub trimmed_front : List ℕ → List ℕ
 trimmed_front [] = []
-trimmed_front (b ∷ bs) = if b == 32 then trimmed_front bs else b ∷ bs
+trimmed_front (b ∷ bs) = if b == space then trimmed_front bs else b ∷ bs
 
 -- without the spaces at the end, and at both ends
 abbrev pub trimmed_end : List ℕ → List ℕ
@@ -59,10 +59,10 @@ trimmed bytes = trimmed_end (trimmed_front bytes)
 
 -- a digit of a base of 10 or 16, and its value
 abbrev pub is_digit_of : ℕ → ℕ → Bool
-is_digit_of base b = is_digit b || ((base == 16) && ((nat_le 97 b && nat_le b 102) || (nat_le 65 b && nat_le b 70)))
+is_digit_of base b = is_digit b || ((base == 16) && ((nat_le lower_a b && nat_le b lower_f) || (nat_le upper_a b && nat_le b upper_f)))
 
 abbrev pub digit_of : ℕ → ℕ
-digit_of b = if nat_le b 57 then b - 48 else if nat_le b 70 then b - 55 else b - 87
+digit_of b = if nat_le b digit_nine then b - digit_zero else if nat_le b upper_f then b - upper_a + 10 else b - lower_a + 10
 
 -- the value of a digit, or no digit of the base
 abbrev pub IsDigitValue : ℕ → ℕ → Option ℕ → Type 0
@@ -79,4 +79,4 @@ is_character code = nat_lt 0 code && (nat_lt code 0xD800 || (nat_le 0xE000 code 
 
 -- The line of a byte is 1 plus the number of LF before it.
 abbrev pub line_after : List ℕ → ℕ
-line_after bytes = 1 + count_by (λ b. b == 10) bytes
+line_after bytes = 1 + count_by (λ b. b == line_feed) bytes

@@ -4,21 +4,23 @@
 -- texts depends on where a run of them is cut.)
 -- The grammar is loose: a name or a value is any bytes of its class here, and a reference may spell any number.
 -- What it lets through is refused by TextFaults.
-use Rattle.std.specs.Prelude.{◌≡◌, ◌≢◌, ℕ, ◌≤◌, Bool, true, false, if◌then◌else◌, ◌==◌, ◌&&◌, List, [], ◌∷◌, ◌++◌, length, drop, Option, Some, None, encode_utf8}
+use Rattle.std.specs.Prelude.{◌≡◌, ◌≢◌, ℕ, ◌≤◌, Bool, true, false, if◌then◌else◌, ◌==◌, ◌&&◌, List, [], ◌∷◌, ◌++◌, length, drop, Option, Some, None, encode_utf8, codes}
 use Rattle.psa_text.specs.declared.token.Tag.{Tag}
 use Rattle.psa_text.specs.declared.scanner.item.Item.{Item}
 use Rattle.psa_text.specs.declared.scanner.item.Item.TheVariants.{Start, Empty, End, Doctype, Text, Comment, Instruction}
 use Rattle.psa_text.specs.TextBytes.{AllPass, AreBlanks, IsName, is_blank, is_character, is_quote, is_doctype_byte, is_value_byte, is_digit_of, spaced, number_behind, trimmed, line_after}
+use Rattle.psa_text.specs.NamedBytes.{quotation_mark, ampersand, apostrophe, less_than, equals_sign, greater_than}
+use Rattle.psa_text.specs.declared.limits.TheConstants.{MAX_REFERENCE_DIGITS}
 
 -- `&`, and what is behind it: a reference, and the number of the character that it stands for
 pub data IsReference : List ℕ → ℕ → Type 0 where
-  is_less : IsReference (38 ∷ 108 ∷ 116 ∷ 59 ∷ []) 60
-  is_greater : IsReference (38 ∷ 103 ∷ 116 ∷ 59 ∷ []) 62
-  is_ampersand : IsReference (38 ∷ 97 ∷ 109 ∷ 112 ∷ 59 ∷ []) 38
-  is_quotation : IsReference (38 ∷ 113 ∷ 117 ∷ 111 ∷ 116 ∷ 59 ∷ []) 34
-  is_apostrophe : IsReference (38 ∷ 97 ∷ 112 ∷ 111 ∷ 115 ∷ 59 ∷ []) 39
-  is_decimal : (digits : List ℕ) → digits ≢ [] → length digits ≤ 8 → AllPass (is_digit_of 10) digits → IsReference (38 ∷ 35 ∷ (digits ++ (59 ∷ []))) (number_behind 10 0 digits)
-  is_hexadecimal : (digits : List ℕ) → digits ≢ [] → length digits ≤ 8 → AllPass (is_digit_of 16) digits → IsReference (38 ∷ 35 ∷ 120 ∷ (digits ++ (59 ∷ []))) (number_behind 16 0 digits)
+  is_less : IsReference (codes "&lt;") less_than
+  is_greater : IsReference (codes "&gt;") greater_than
+  is_ampersand : IsReference (codes "&amp;") ampersand
+  is_quotation : IsReference (codes "&quot;") quotation_mark
+  is_apostrophe : IsReference (codes "&apos;") apostrophe
+  is_decimal : (digits : List ℕ) → digits ≢ [] → length digits ≤ MAX_REFERENCE_DIGITS → AllPass (is_digit_of 10) digits → IsReference (codes "&#" ++ (digits ++ codes ";")) (number_behind 10 0 digits)
+  is_hexadecimal : (digits : List ℕ) → digits ≢ [] → length digits ≤ MAX_REFERENCE_DIGITS → AllPass (is_digit_of 16) digits → IsReference (codes "&#x" ++ (digits ++ codes ";")) (number_behind 16 0 digits)
 
 -- What a reference to the number stands for: the bytes of its character. A number that is no character stands for
 -- U+FFFD, the replacement character, as in HTML; TextFaults refuses it.
@@ -42,14 +44,14 @@ pub record IsOpening (quote : ℕ) (name bytes : List ℕ) : Type 0 where
   pub are_before : AreBlanks before
   pub are_after : AreBlanks after
   pub is_quote : is_quote quote ≡ true
-  pub spelled : bytes ≡ blanks ++ name ++ before ++ (61 ∷ after) ++ (quote ∷ [])
+  pub spelled : bytes ≡ blanks ++ name ++ before ++ (equals_sign ∷ after) ++ (quote ∷ [])
 
 abbrev pub with_attribute : Tag → List ℕ → List ℕ → Tag
 with_attribute tag name value = record tag { attributes = tag.attributes ++ ((record { name = name; value = trimmed value }) ∷ []) }
 
 -- `<`, a name, and whole attributes
 pub data IsHead : List ℕ → Tag → Type 0 where
-  head_name : (name : List ℕ) → IsName name → IsHead (60 ∷ name) (record { name = name; attributes = [] })
+  head_name : (name : List ℕ) → IsName name → IsHead (less_than ∷ name) (record { name = name; attributes = [] })
   head_more : (head : List ℕ) (tag : Tag) (quote : ℕ) (name opening raw value : List ℕ) → IsHead head tag → IsOpening quote name opening → IsRaw quote raw value → IsHead (head ++ (opening ++ raw ++ (quote ∷ []))) (with_attribute tag name value)
 
 -- `end` stands at the front of the bytes
@@ -69,13 +71,13 @@ IsUpTo end bytes = behind_first end bytes ≡ Some []
 
 -- the bytes of an item
 pub data IsItem : Item → List ℕ → Type 0 where
-  is_text : (b : ℕ) → (b == 60) ≡ false → IsItem (Text b) (b ∷ [])
-  is_instruction : (body : List ℕ) → IsUpTo (63 ∷ 62 ∷ []) body → IsItem Instruction (60 ∷ 63 ∷ body)
-  is_comment : (body : List ℕ) → IsUpTo (45 ∷ 45 ∷ 62 ∷ []) body → IsItem Comment (60 ∷ 33 ∷ 45 ∷ 45 ∷ body)
-  is_doctype : (blank : ℕ) (body : List ℕ) → is_blank blank ≡ true → AllPass is_doctype_byte body → IsItem Doctype (60 ∷ 33 ∷ 68 ∷ 79 ∷ 67 ∷ 84 ∷ 89 ∷ 80 ∷ 69 ∷ blank ∷ (body ++ (62 ∷ [])))
-  is_start : (head : List ℕ) (tag : Tag) (blanks : List ℕ) → IsHead head tag → AreBlanks blanks → IsItem (Start tag) (head ++ (blanks ++ (62 ∷ [])))
-  is_empty : (head : List ℕ) (tag : Tag) (blanks : List ℕ) → IsHead head tag → AreBlanks blanks → IsItem (Empty tag) (head ++ (blanks ++ (47 ∷ 62 ∷ [])))
-  is_end : (name blanks : List ℕ) → IsName name → AreBlanks blanks → IsItem (End name) (60 ∷ 47 ∷ (name ++ (blanks ++ (62 ∷ []))))
+  is_text : (b : ℕ) → (b == less_than) ≡ false → IsItem (Text b) (b ∷ [])
+  is_instruction : (body : List ℕ) → IsUpTo (codes "?>") body → IsItem Instruction (codes "<?" ++ body)
+  is_comment : (body : List ℕ) → IsUpTo (codes "-->") body → IsItem Comment (codes "<!--" ++ body)
+  is_doctype : (blank : ℕ) (body : List ℕ) → is_blank blank ≡ true → AllPass is_doctype_byte body → IsItem Doctype (codes "<!DOCTYPE" ++ (blank ∷ (body ++ codes ">")))
+  is_start : (head : List ℕ) (tag : Tag) (blanks : List ℕ) → IsHead head tag → AreBlanks blanks → IsItem (Start tag) (head ++ (blanks ++ codes ">"))
+  is_empty : (head : List ℕ) (tag : Tag) (blanks : List ℕ) → IsHead head tag → AreBlanks blanks → IsItem (Empty tag) (head ++ (blanks ++ codes "/>"))
+  is_end : (name blanks : List ℕ) → IsName name → AreBlanks blanks → IsItem (End name) (codes "</" ++ (name ++ (blanks ++ codes ">")))
 
 -- an item, and the line of its first byte
 abbrev pub Placed : Type 0

@@ -1,7 +1,7 @@
 -- The tree of a list of items, by a grammar. (XML 1.0, productions 1, 22, 27, 39 and 43: an element is an empty tag, or a
 -- start tag, its content and an end tag of the same name; doctypes stand before the root. That a text that isn't blank
 -- stands in `label` alone, and the greatest depth, are this project's own.)
-use Rattle.std.specs.Prelude.{◌≡◌, ℕ, suc, Bool, true, false, ◌||◌, List, [], ◌∷◌, ◌++◌}
+use Rattle.std.specs.Prelude.{◌≡◌, ℕ, suc, Bool, true, false, ◌||◌, List, [], ◌∷◌, ◌++◌, codes}
 use Rattle.std.specs.Str.{bytes_eq}
 use Rattle.psa_text.specs.declared.tree.Element.{Element}
 use Rattle.psa_text.specs.declared.token.Tag.{Tag}
@@ -10,10 +10,11 @@ use Rattle.psa_text.specs.declared.scanner.item.Item.TheVariants.{Start, Empty, 
 use Rattle.psa_text.specs.Tree.{element_of}
 use Rattle.psa_text.specs.TextBytes.{AllPass, is_blank}
 use Rattle.psa_text.specs.TextItems.{Placed}
+use Rattle.psa_text.specs.declared.limits.TheConstants.{MAX_DEPTH}
 
 -- `label`
 abbrev pub is_label : List ℕ → Bool
-is_label name = bytes_eq name (108 ∷ 97 ∷ 98 ∷ 101 ∷ 108 ∷ [])
+is_label name = bytes_eq name (codes "label")
 
 -- what the tree passes over: comments, instructions, blanks, and any text in a label
 abbrev pub is_passed : Bool → Item → Bool
@@ -45,13 +46,13 @@ is_before_root (item, line) = is_passed false item
 abbrev pub is_behind_root : Placed → Bool
 is_behind_root (item, line) = is_passed false item
 
--- the items are a document with this root, of depth 64 at most
+-- the items are a document with this root, of depth `MAX_DEPTH` at most
 pub record IsDocument (items : List Placed) (root : Element) : Type 0 where
   pub before : List Placed
   pub one : List Placed
   pub behind : List Placed
   pub are_before : AllPass is_before_root before
-  pub is_root : IsElement 64 one root
+  pub is_root : IsElement MAX_DEPTH one root
   pub are_behind : AllPass is_behind_root behind
   pub joined : items ≡ before ++ one ++ behind
 

@@ -7,6 +7,7 @@ use Rattle.psa_text.specs.declared.tree.Element.TheFolds.{fold-Element}
 use Rattle.psa_text.specs.declared.token.Tag.{Tag}
 use Rattle.psa_text.specs.declared.token.Token.{Token}
 use Rattle.psa_text.specs.declared.token.Token.TheVariants.{Start, Empty, End, Passed}
+use Rattle.psa_text.specs.declared.limits.TheConstants.{MAX_DEPTH}
 
 -- an item of a text, and the line of its first byte
 abbrev pub Item : Type 0
@@ -39,7 +40,7 @@ depth_step layer = 1 + greatest layer.children
 abbrev pub depth : Element → ℕ
 depth = fold-Element ℕ depth_step
 
--- The items are a document: one element, of depth at most 64, with items that the tree passes over beside it.
+-- The items are a document: one element, of depth at most `MAX_DEPTH`, with items that the tree passes over beside it.
 pub record IsDocument (items : List Item) (root : Element) : Type 0 where
   pub elements : AreElements items (root ∷ [])
-  pub bounded : depth root ≤ 64
+  pub bounded : depth root ≤ MAX_DEPTH

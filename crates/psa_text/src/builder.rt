@@ -4,14 +4,12 @@ ghost use Rattle.psa_text.specs.Tree.{element_of};
 ghost use Rattle.psa_text.specs.scanner.Nesting.{has_begun, in_label, nesting_after_item};
 ghost use Rattle.psa_text.specs.Nesting.{at_start, nesting_after_end, finished_root, is_too_deep, deep_nesting_after, nesting_with, state_of, nesting_after};
 
+use crate::limits::MAX_DEPTH;
 use crate::scanner::bytes::is_blank;
 use crate::scanner::item::Item;
 use crate::token::{StepError, Tag, Token};
 use crate::{Element, Items};
 use std::alloc::Global;
-
-/// The deepest that an element may stand; the root stands at 1.
-const MAX_DEPTH: usize = 64;
 
 /// The tree of a text while its items come: the elements that have begun and not ended, outermost
 /// first, and the root once it has ended.
@@ -33,9 +31,10 @@ impl Builder {
     }
 
     /// Takes the next item, which begins at `line`. Refused: where it does not fit, or where an
-    /// element would begin at depth 65.
+    /// element would begin deeper than [`MAX_DEPTH`].
     pub fn step(&mut self, alloc: Global, token: Token, line: u32) -> Result<(), StepError>
-        ensures { Gives (λ _. state_of self.new) result (nesting_after token line (state_of self.old)) }
+        ensures { Gives (λ _. state_of self.new) result
+            (nesting_after token line (state_of self.old)) }
     {
         if self.is_too_deep(&token) {
             return Err(StepError::Refused);
@@ -43,7 +42,7 @@ impl Builder {
         self.nest(alloc, token, line)
     }
 
-    /// Whether the item would begin an element at depth 65.
+    /// Whether the item would begin an element deeper than [`MAX_DEPTH`].
     pub fn is_too_deep(&self, token: &Token) -> bool
         ensures { result ≡ is_too_deep token.now (state_of self.now) }
     {
@@ -55,7 +54,8 @@ impl Builder {
 
     /// Takes the next item, at any depth. Refused: where it does not fit.
     pub fn nest(&mut self, alloc: Global, token: Token, line: u32) -> Result<(), StepError>
-        ensures { Gives (λ _. state_of self.new) result (deep_nesting_after token line (state_of self.old)) }
+        ensures { Gives (λ _. state_of self.new) result
+            (deep_nesting_after token line (state_of self.old)) }
     {
         match token {
             Token::Start(tag) => self.open(alloc, tag, line),
@@ -65,9 +65,11 @@ impl Builder {
         }
     }
 
-    /// Takes the next item of a scanned text, which begins at `line`. Refused: where it does not fit.
+    /// Takes the next item of a scanned text, which begins at `line`. Refused: where it does not
+    /// fit.
     pub fn step_item(&mut self, alloc: Global, item: Item, line: u32) -> Result<(), StepError>
-        ensures { Gives (λ _. state_of self.new) result (nesting_after_item item line (state_of self.old)) }
+        ensures { Gives (λ _. state_of self.new) result
+            (nesting_after_item item line (state_of self.old)) }
     {
         match item {
             Item::Start(tag) => self.step(alloc, Token::Start(tag), line),
@@ -111,7 +113,8 @@ impl Builder {
     }
 
     fn open(&mut self, alloc: Global, tag: Tag, line: u32) -> Result<(), StepError>
-        ensures { Gives (λ _. state_of self.new) result (deep_nesting_after (Token.Start tag) line (state_of self.old)) }
+        ensures { Gives (λ _. state_of self.new) result
+            (deep_nesting_after (Token.Start tag) line (state_of self.old)) }
     {
         if self.root.is_some() {
             return Err(StepError::Refused);
@@ -121,7 +124,8 @@ impl Builder {
     }
 
     fn open_and_close(&mut self, alloc: Global, tag: Tag, line: u32) -> Result<(), StepError>
-        ensures { Gives (λ _. state_of self.new) result (deep_nesting_after (Token.Empty tag) line (state_of self.old)) }
+        ensures { Gives (λ _. state_of self.new) result
+            (deep_nesting_after (Token.Empty tag) line (state_of self.old)) }
     {
         if self.root.is_some() {
             return Err(StepError::Refused);
@@ -130,7 +134,8 @@ impl Builder {
     }
 
     fn close(&mut self, name: &[u8]) -> Result<(), StepError>
-        ensures { Gives (λ _. state_of self.new) result (nesting_after_end name.now (state_of self.old)) }
+        ensures { Gives (λ _. state_of self.new) result
+            (nesting_after_end name.now (state_of self.old)) }
     {
         let Some(element) = self.open_elements.pop() else {
             return Err(StepError::Refused);
@@ -143,7 +148,8 @@ impl Builder {
 
     /// Puts a whole element where it belongs: last in the innermost open element, or as the root.
     fn place(&mut self, element: Element) -> Result<(), StepError>
-        ensures { Gives (λ _. state_of self.new) result (Some (nesting_with element (state_of self.old))) }
+        ensures { Gives (λ _. state_of self.new) result
+            (Some (nesting_with element (state_of self.old))) }
     {
         match self.open_elements.pop() {
             None => self.root = Some(element),

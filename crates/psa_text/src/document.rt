@@ -6,23 +6,24 @@ ghost use Rattle.psa_text.specs.Steps.{Gives};
 
 use crate::builder::Builder;
 use crate::bytes::line_feeds;
+use crate::limits::MAX_FIRST_BYTES;
 use crate::reader::read_token;
 use crate::token::StepError;
 use crate::{Document, Element, OutOfMemory};
 use std::alloc::Global;
 
-/// The most bytes of a first text.
-const MAX_BYTES: usize = 1_048_576;
-
-/// The tree of a first text, None where the bytes are none. A first text has at most 1,048,576
-/// bytes. It is start tags, empty tags, end tags and texts of blanks, all ASCII, and is one element
-/// of depth at most 64. A tag has at most one attribute, a name at most 64 bytes, and a value, in
-/// `"`, at most 128. Lines are counted from 1. (A profile of XML 1.0.)
+/// The tree of a first text, None where the bytes are none. A first text has at most
+/// `MAX_FIRST_BYTES` bytes. It is start tags, empty tags, end tags and texts of blanks, all ASCII,
+/// and is one element of depth at most `MAX_DEPTH`. A tag has at most one attribute, a name at most
+/// `MAX_NAME_BYTES` bytes, and a value, in `"`, at most `MAX_FIRST_VALUE_BYTES`. Lines are counted
+/// from 1. (A profile of XML 1.0, with the limits of [`limits`](crate::limits).)
 pub fn first_document(alloc: Global, bytes: &[u8]) -> Result<Option<Document>, OutOfMemory>
-    ensures grammar { IfOk result (λ found. IfSome found (λ document. IsFirstText bytes.now document.root)) }
-    ensures exact { IfOk result (λ found. option_map (λ document. document.root) found ≡ first_root bytes.now) }
+    ensures grammar { IfOk result
+        (λ found. IfSome found (λ document. IsFirstText bytes.now document.root)) }
+    ensures exact { IfOk result
+        (λ found. option_map (λ document. document.root) found ≡ first_root bytes.now) }
 {
-    if bytes.len() > MAX_BYTES {
+    if bytes.len() > MAX_FIRST_BYTES {
         return Ok(None);
     }
     match read_tree(alloc, bytes) {
@@ -34,7 +35,7 @@ pub fn first_document(alloc: Global, bytes: &[u8]) -> Result<Option<Document>, O
 
 /// The root of the tree of the bytes. Refused: where they have none.
 fn read_tree(alloc: Global, bytes: &[u8]) -> Result<Element, StepError>
-    requires { length bytes.now ≤ 1048576 }
+    requires { length bytes.now ≤ MAX_FIRST_BYTES }
     ensures { Gives (λ root. root) result (tree_of bytes.now) }
 {
     let mut builder = Builder::new(alloc);

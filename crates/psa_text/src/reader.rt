@@ -4,14 +4,10 @@ ghost use Rattle.psa_text.specs.Reading.{attribute_at, attributes_at, byte_at, e
 ghost use Rattle.psa_text.specs.Steps.{Gives};
 
 use crate::bytes::{Class, begins_name, run_len};
+use crate::limits::{MAX_FIRST_VALUE_BYTES, MAX_NAME_BYTES};
 use crate::token::{StepError, Tag, Token};
 use crate::{Attribute, Items, Text};
 use std::alloc::Global;
-
-/// The most bytes of the name of a tag or an attribute.
-const MAX_NAME: usize = 64;
-/// The most bytes of a value.
-const MAX_VALUE: usize = 128;
 
 /// The item at the front, and the bytes behind it. Refused: where none stands there.
 #[tactic(auto, unfolding(crate::specs::Reading::token_at))]
@@ -108,7 +104,7 @@ fn read_value(alloc: Global, bytes: &[u8]) -> Result<(Text, &[u8]), StepError>
     ensures shorter { IfOk result (λ x. length x.1.now ≤ length bytes.now) }
 {
     let len = run_len(Class::Value, bytes);
-    if len > MAX_VALUE {
+    if len > MAX_FIRST_VALUE_BYTES {
         return Err(StepError::Refused);
     }
     let (value, rest) = bytes.split_at(len);
@@ -121,7 +117,7 @@ fn read_name(alloc: Global, bytes: &[u8]) -> Result<(Text, &[u8]), StepError>
     ensures shorter { IfOk result (λ x. length x.1.now ≤ length bytes.now) }
 {
     let len = run_len(Class::Name, bytes);
-    if !begins_name(bytes) || len > MAX_NAME {
+    if !begins_name(bytes) || len > MAX_NAME_BYTES {
         return Err(StepError::Refused);
     }
     let (name, rest) = bytes.split_at(len);

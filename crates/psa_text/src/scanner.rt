@@ -1,4 +1,5 @@
-ghost use Rattle.std.specs.Prelude.{◌≡◌, ◌++◌, ◌+◌, ◌<◌, ◌≤◌, [], List, ℕ, None, Ok, Err, IfErr, length};
+ghost use Rattle.std.specs.Prelude.{◌≡◌, ◌++◌, ◌+◌, ◌<◌, ◌≤◌, [], List, ℕ, None, Ok, IfErr, length};
+ghost use Rattle.std.specs.Result.{IsErrOf};
 ghost use Rattle.psa_text.specs.declared.scanner.error.TextError.{TextError};
 ghost use Rattle.psa_text.specs.declared.scanner.mark.Mark.{Mark};
 ghost use Rattle.psa_text.specs.scanner.Bounds.{IsBounded};
@@ -19,6 +20,7 @@ pub mod spans;
 
 use crate::Document;
 use crate::builder::Builder;
+use crate::limits::{MAX_ELEMENTS, MAX_FILE_BYTES};
 use crate::scanner::error::{TextError, TextFault, TextKind};
 use crate::scanner::item::Item;
 use crate::scanner::lexer::{Lexer, TokenError};
@@ -27,13 +29,9 @@ use crate::scanner::spans::{behind_blanks, from_first, line_ends};
 use crate::token::StepError;
 use std::alloc::Global;
 
-/// The greatest number of bytes of a text.
-const MAX_BYTES: u32 = 67_108_864;
-/// The greatest number of elements of a text.
-const MAX_ELEMENTS: u32 = 1_000_000;
-
-/// Reads a text in pieces to its tree, or to its first fault. It keeps no earlier byte: beside the tree it
-/// holds one name of at most 64 bytes and one value of at most 512.
+/// Reads a text in pieces to its tree, or to its first fault. It keeps no earlier byte: beside the
+/// tree it holds the parts of the tag under way that are whole, and in arrays of fixed size the
+/// name and the value under way.
 #[derive(Drop)]
 pub struct Scanner {
     lexer: Lexer,
@@ -73,11 +71,12 @@ impl Scanner {
         }
     }
 
-    /// Reads a further piece of the text, cut anywhere. Answers the text's fault in the call that has the
-    /// byte that decides it, and then the same error for ever.
+    /// Reads a further piece of the text, cut anywhere. Answers the text's fault in the call that
+    /// has the byte that decides it, and then the same error for ever.
     pub fn feed(&mut self, piece: &[u8]) -> Result<(), TextError>
-        ensures read { (h : List ℕ) → HasRead self.old h → Answers (h ++ piece.now) self.new result }
-        ensures again { (error : TextError) → HasFailed self.old error → result ≡ Err error }
+        ensures read { (h : List ℕ) → HasRead self.old h
+            → Answers (h ++ piece.now) self.new result }
+        ensures again { (error : TextError) → HasFailed self.old error → IsErrOf result error }
         ensures failed { IfErr result (λ error. HasFailed self.new error) }
     {
         if let Some(error) = self.failed {
@@ -97,7 +96,7 @@ impl Scanner {
     /// The tree of the whole text, or the fault at its end, or the error that was answered before.
     pub fn finish(self) -> Result<Document, TextError>
         ensures read { (h : List ℕ) → HasRead self h → Ends h result }
-        ensures again { (error : TextError) → HasFailed self error → result ≡ Err error }
+        ensures again { (error : TextError) → HasFailed self error → IsErrOf result error }
     {
         if let Some(error) = self.failed {
             return Err(error);
@@ -111,8 +110,8 @@ impl Scanner {
         }
     }
 
-    /// Reads in one go the bytes at the front that stay within the item under way, or are texts that change
-    /// nothing but the counts. Gives the bytes behind them.
+    /// Reads in one go the bytes at the front that stay within the item under way, or are texts
+    /// that change nothing but the counts. Gives the bytes behind them.
     fn read_span<'a>(&mut self, bytes: &'a [u8]) -> &'a [u8]
         requires failed { self.old.failed ≡ None }
         ensures read { ReadsSpan (scan_of self.old) bytes.now (scan_of self.new) result.now }
@@ -121,7 +120,7 @@ impl Scanner {
         if !matches!(self.mark, Mark::Passed) {
             return bytes;
         }
-        let room = (MAX_BYTES - self.count) as usize;
+        let room = (MAX_FILE_BYTES - self.count) as usize;
         let (near, _) = bytes.split_at(bytes.len().min(room));
         let rest = if self.lexer.is_between() {
             self.read_texts(near)
@@ -136,7 +135,7 @@ impl Scanner {
         requires failed { self.old.failed ≡ None }
         requires mark { self.old.mark ≡ Mark.Passed }
         requires between { lex_of self.old.lexer ≡ machine.Between }
-        requires room { self.old.count + length bytes.now ≤ 67108864 }
+        requires room { self.old.count + length bytes.now ≤ MAX_FILE_BYTES }
         ensures read { ReadsSpan (scan_of self.old) bytes.now (scan_of self.new) result.now }
         ensures failed { self.new.failed ≡ None }
     {
@@ -151,7 +150,8 @@ impl Scanner {
 
     /// The bytes behind the texts at the front that change nothing but the counts.
     fn behind_texts<'a>(&self, bytes: &'a [u8]) -> &'a [u8]
-        ensures { IsBehind (is_quiet (in_label (state_of self.now.builder).open_elements)) bytes.now result.now }
+        ensures { IsBehind (is_quiet (in_label (state_of self.now.builder).open_elements))
+            bytes.now result.now }
     {
         if self.builder.is_in_label() {
             from_first(b'<', bytes)
@@ -164,7 +164,7 @@ impl Scanner {
     fn read_within<'a>(&mut self, bytes: &'a [u8]) -> &'a [u8]
         requires failed { self.old.failed ≡ None }
         requires mark { self.old.mark ≡ Mark.Passed }
-        requires room { self.old.count + length bytes.now ≤ 67108864 }
+        requires room { self.old.count + length bytes.now ≤ MAX_FILE_BYTES }
         ensures read { ReadsSpan (scan_of self.old) bytes.now (scan_of self.new) result.now }
         ensures failed { self.new.failed ≡ None }
     {
@@ -176,7 +176,7 @@ impl Scanner {
 
     /// Counts bytes and their lines.
     fn count_bytes(&mut self, bytes: &[u8])
-        requires { self.old.count + length bytes.now ≤ 67108864 }
+        requires { self.old.count + length bytes.now ≤ MAX_FILE_BYTES }
         ensures { CountsAll bytes.now self.old self.new }
     {
         self.count += bytes.len() as u32;
@@ -188,7 +188,7 @@ impl Scanner {
         requires { self.old.failed ≡ None }
         ensures { Steps (scan_after (scan_of self.old) byte) self.new result }
     {
-        if self.count == MAX_BYTES {
+        if self.count == MAX_FILE_BYTES {
             return Err(fault(TextKind::LongFile, self.line));
         }
         match (self.mark, byte) {
@@ -203,7 +203,7 @@ impl Scanner {
     /// One more byte of the byte order mark.
     fn pass_mark(&mut self, mark: Mark) -> Result<(), TextError>
         requires failed { self.old.failed ≡ None }
-        requires room { self.old.count < 67108864 }
+        requires room { self.old.count < MAX_FILE_BYTES }
         ensures { Steps (Ok (scan_with_mark (scan_of self.old) mark)) self.new result }
     {
         self.mark = mark;
@@ -214,7 +214,7 @@ impl Scanner {
     /// Reads one byte behind any byte order mark.
     fn step_item(&mut self, byte: u8) -> Result<(), TextError>
         requires failed { self.old.failed ≡ None }
-        requires room { self.old.count < 67108864 }
+        requires room { self.old.count < MAX_FILE_BYTES }
         ensures { Steps (scan_after_item_byte (scan_of self.old) byte) self.new result }
     {
         if self.elements == MAX_ELEMENTS && self.lexer.begins_tag(byte) {
@@ -235,9 +235,12 @@ impl Scanner {
     /// The item is whole: it goes into the tree, and the next begins behind its last byte.
     fn end_item(&mut self, item: Item, byte: u8) -> Result<(), TextError>
         requires failed { self.old.failed ≡ None }
-        requires room { self.old.count < 67108864 }
+        requires room { self.old.count < MAX_FILE_BYTES }
         requires between { lex_of self.old.lexer ≡ machine.Between }
-        ensures { Steps (scan_after_item (scan_of self.old) byte item (nesting_after_item item self.old.start (state_of self.old.builder))) self.new result }
+        ensures { Steps
+            (scan_after_item (scan_of self.old) byte item
+            (nesting_after_item item self.old.start (state_of self.old.builder)))
+            self.new result }
     {
         let begun = u32::from(item.begins_element());
         match self.builder.step_item(self.alloc, item, self.start) {
@@ -254,7 +257,7 @@ impl Scanner {
 
     /// Counts a byte behind any byte order mark.
     fn pass(&mut self, byte: u8)
-        requires { self.old.count < 67108864 }
+        requires { self.old.count < MAX_FILE_BYTES }
         ensures { Passes byte self.old self.new }
     {
         self.mark = Mark::Passed;

@@ -36,6 +36,7 @@ InsideAt quote count (Value v) = (v.quote ≡ quote) × (v.count ≡ count)
 InsideAt quote count (Refer v r) = (v.quote ≡ quote) × (v.count ≡ count)
 InsideAt quote count _ = ⊥
 
+-- a value goes on, or is whole
 abbrev pub InsideNext : ℕ → ℕ → Next → Type 0
 InsideNext quote count Broken = Unit {0}
 InsideNext quote count (Within q) = InsideAt quote count q
@@ -121,6 +122,7 @@ long_complete (long_value head tag quote name opening raw is opens other long) i
 abbrev pub scan_at : Mark → ℕ → Reading → State → Scan
 scan_at mark count r t = record { mark = mark; count = count; line = r.line; start = r.start; elements = element_count r.items; lex = r.lex; nesting = t }
 
+-- a scan stands where these bytes lead, with the tree of their items so far
 pub record Fits (body : List ℕ) (s : Scan) : Type 0 where
   pub reading : Reading
   pub state : State
@@ -128,6 +130,7 @@ pub record Fits (body : List ℕ) (s : Scan) : Type 0 where
   pub nested : nests reading.items at_start ≡ Some state
   pub is : s ≡ scan_at s.mark s.count reading state
 
+-- what one more byte behind the mark gives: a scan that fits, or the fault that the byte decides
 abbrev pub OutcomeWithin : List ℕ → ℕ → ℕ → Result Scan TextFault → Type 0
 OutcomeWithin body b count (Ok s) = Fits (body ++ (b ∷ [])) s × (s.mark ≡ Passed) × (s.count ≡ count + 1) × ((found : TextFault) → DecidesWithin body b found → ⊥)
 OutcomeWithin body b count (Err found) = DecidesWithin body b found
@@ -147,15 +150,18 @@ nests_stands items (x ∷ xs) s is = on (nesting_after_item x.0 x.1 s) (step_sta
     on None s f = tt
     on (Some t) s f = subst (λ u. StandsAt u (nests xs t)) (append_assoc items (x ∷ []) xs) (f t s)
 
+-- items that nest have a tree so far
 pub nested_stands : (items : List Placed) (t : State) → nests items at_start ≡ Some t → Stands items t
 nested_stands items t h = subst (StandsAt items) h (nests_stands [] items at_start (before_root [] tt))
 
+-- items that nest are the front of a document
 pub nested_front : (items : List Placed) (t : State) → nests items at_start ≡ Some t → IsDocumentFront items
 nested_front items t h = stands_front (nested_stands items t h)
 
 none_some : {A : Type 0} {x : A} → None ≡ Some x → ⊥
 none_some h = cc
 
+-- items that do not nest are the front of no document
 pub unnested_front : (items : List Placed) → nests items at_start ≡ None → IsDocumentFront items → ⊥
 unnested_front items h front = none_some (sym (nests-append items front.0 at_start ∙ rw h refl) ∙ document_nests front.2)
 
@@ -300,6 +306,7 @@ line_unmarked (b ∷ bs) = choose (λ x. line_after x ≡ line_after (b ∷ bs))
 -- behind these bytes no byte order mark is under way
 pub record Settled (h : List ℕ) : Type 0 where
   pub more : (w : List ℕ) → unmarked (h ++ w) ≡ unmarked h ++ w
+  -- what goes on from bytes that are no front of the mark is none
   pub past : (w : List ℕ) → w ≢ [] → IsMarkFront (h ++ w) → ⊥
 
 mark_begins : {b : ℕ} {w : List ℕ} → IsMarkFront (b ∷ w) → (b == 239) ≡ true
@@ -331,17 +338,21 @@ settled_push h b s = record {
   past = λ w some front. s.past (b ∷ w) (nil_cons b w) (rw (append_assoc h (b ∷ []) w) at front);
 }
 
+-- how much of a byte order mark these bytes are
 pub data MarkFits : List ℕ → Mark → Type 0 where
   unread : MarkFits [] Unread
   one_read : MarkFits (239 ∷ []) FirstByte
   two_read : MarkFits (239 ∷ 187 ∷ []) SecondByte
   passed : (h : List ℕ) → Settled h → MarkFits h Passed
 
+-- a scan stands where all these bytes lead, mark and counts included
 pub record FitsAll (h : List ℕ) (s : Scan) : Type 0 where
   pub mark : MarkFits h s.mark
   pub count : s.count ≡ length h
+  -- what was read from the start fits
   pub fits : Fits (unmarked h) s
 
+-- what one more byte gives: a scan that fits, or the fault that the byte decides
 abbrev pub Outcome : List ℕ → ℕ → Result Scan TextFault → Type 0
 Outcome h b (Ok s) = FitsAll (h ++ (b ∷ [])) s × ((found : TextFault) → Decides h b found → ⊥)
 Outcome h b (Err found) = Decides h b found
@@ -421,6 +432,7 @@ mark_outcome _ s b _ two_read count short fits =
     (λ e. broken_at_three b (other_byte b 191 e))
 mark_outcome _ s b _ (passed h settled) count short fits = plain_outcome h b s.count (plain_settled h b settled) count short (scan_after_item_byte s b) (scan_outcome (unmarked h) b s fits)
 
+-- the line of a scan is that behind its bytes
 pub line_is : (h : List ℕ) (s : Scan) → FitsAll h s → s.line ≡ line_after h
 line_is h s f = ap (λ u. u.line) f.fits.is ∙ (standing (unmarked h) f.fits.reading f.fits.read).line ∙ line_unmarked h
 
@@ -431,6 +443,7 @@ step_outcome h s b f =
     (λ e. rw (line_is h s f) (long_file h b (sym f.count ∙ equal s.count 67108864 e)))
     (λ e. mark_outcome h s b s.mark f.mark f.count (λ long. other_byte s.count 67108864 e (f.count ∙ long)) f.fits)
 
+-- the first scan fits no byte
 pub fits_start : FitsAll [] start_scan
 fits_start = record { mark = unread; count = refl; fits = record { reading = first; state = at_start; read = refl; nested = refl; is = refl } }
 
@@ -442,17 +455,21 @@ fits_on h b bs (Err found) t out on e = absurd (cc)
 ok_same : {s t : Scan} → ◌≡◌ {A = Result Scan TextFault} (Ok s) (Ok t) → s ≡ t
 ok_same h = cc
 
+-- a scan that fits still fits behind further bytes that are read
 pub fits_reads : (h : List ℕ) (s t : Scan) (w : List ℕ) → FitsAll h s → scan_after_bytes s w ≡ Ok t → FitsAll (h ++ w) t
 fits_reads h s t [] f e = let same : s ≡ t = ok_same e in rw (append-nil h, ← same) f
 fits_reads h s t (b ∷ bs) f e = fits_on h b bs (scan_after s b) t (step_outcome h s b f) (λ u g k. fits_reads (h ++ (b ∷ [])) u t bs g k) e
 
+-- what was read from the start fits
 pub fits : (h : List ℕ) (s : Scan) → scan_after_bytes start_scan h ≡ Ok s → FitsAll h s
 fits h s e = fits_reads [] start_scan s h fits_start e
 
+-- bytes in two parts are read one behind the other
 pub reads-append : (s : Scan) (u v : List ℕ) → scan_after_bytes s (u ++ v) ≡ and_then (scan_after_bytes s u) (λ t. scan_after_bytes t v)
 reads-append s [] v = refl
 reads-append s (b ∷ u) v = elim (scan_after s b) as (λ o. and_then o (λ t. scan_after_bytes t (u ++ v)) ≡ and_then (and_then o (λ t. scan_after_bytes t u)) (λ t. scan_after_bytes t v)) [ Err found ↦ refl | Ok t ↦ reads-append t u v ]
 
+-- the same, where the first part is read
 pub reads_then : (s t : Scan) (u v : List ℕ) (o : Result Scan TextFault) → scan_after_bytes s u ≡ Ok t → scan_after_bytes t v ≡ o → scan_after_bytes s (u ++ v) ≡ o
 reads_then s t u v o h k = reads-append s u v ∙ rw h k
 

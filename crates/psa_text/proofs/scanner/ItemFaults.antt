@@ -26,6 +26,7 @@ bad_number head tag quote name opening raw value part reference code b is opens 
     bad_reference head tag quote name opening raw value (head ++ (opening ++ (raw ++ part))) reference code b is opens raws ref other
     (append_assoc head (opening ++ (raw ++ part)) (b ∷ []) ∙ ap (λ x. head ++ x) (append_assoc opening (raw ++ part) (b ∷ []) ∙ ap (λ x. opening ++ x) (append_assoc raw part (b ∷ []) ∙ rw spelled refl)))
 
+-- what the machine finds to end badly does
 pub bad_sound : {p : Lex} {w : List ℕ} (b : ℕ) → Reached p w → is_bad_end p b ≡ true → IsBadEnd w b
 bad_sound b (at_name n is) h =
     let t = and_true (not (is_name_byte b)) (not (is_utf8 n)) h in
@@ -57,6 +58,7 @@ bad_sound b _ h = absurd (cc)
 either_quote : (quote : ℕ) → is_quote quote ≡ true → (quote == 34) ≡ false → quote ≡ 39
 either_quote quote q e = equal quote 39 (rw e at q)
 
+-- no byte is the quote
 abbrev pub NoQuote : ℕ → List ℕ → Type 0
 NoQuote quote bytes = AllPass (λ b. not (b == quote)) bytes
 
@@ -140,6 +142,7 @@ long_attribute : (head : List ℕ) (tag : Tag) (blanks name : List ℕ) (t : Boo
 long_attribute head tag blanks name true e is some are named h = long_name (head ++ (blanks ++ name)) name (in_attribute head tag blanks name is some are named) (above 64 (length name) e)
 long_attribute head tag blanks name false e is some are named h = many_attributes head tag blanks name is (at_least 32 (length tag.attributes) h) some are named
 
+-- what the machine finds too long is
 pub long_sound : {p : Lex} {w : List ℕ} → Reached p w → is_long p ≡ true → IsLong w
 long_sound (at_name n is) h = long_name (60 ∷ n) n (in_tag n is) (above 64 (length n) h)
 long_sound (at_end_name n is) h = long_name (60 ∷ 47 ∷ n) n (in_end_tag n is) (above 64 (length n) h)
@@ -156,6 +159,7 @@ pub record EndsBadly (part : List ℕ) (b : ℕ) : Type 0 where
   pub ran : run Between part ≡ Within state
   pub bad : is_bad_end state b ≡ true
 
+-- the machine stands in a name, which it judges as the definition does
 pub record NameRun (part name : List ℕ) : Type 0 where
   pub state : Lex
   pub ran : run Between part ≡ Within state
@@ -172,11 +176,13 @@ or_true : (t : Bool) → (t || true) ≡ true
 or_true true = refl
 or_true false = refl
 
+-- the machine runs over a tag up to the name of an attribute
 pub attribute_part_run : (head : List ℕ) (tag : Tag) (blanks name : List ℕ) → IsHead head tag → blanks ≢ [] → AreBlanks blanks → IsName name → run Between (head ++ (blanks ++ name)) ≡ Within (AttributeName tag name)
 attribute_part_run head tag blanks name is some are named =
     let ran = head_run is in
     chained Between ran.state head (blanks ++ name) _ ran.ran (chained ran.state (Gap tag) blanks name _ (gap_run tag ran.state blanks ran.tagged some are) (attribute_run tag name named))
 
+-- the machine runs over a part that ends in a name
 pub name_run : {part name : List ℕ} → EndsInName part name → NameRun part name
 name_run (in_tag [] is) = absurd is
 name_run (in_tag (c ∷ cs) is) = record { state = Name (c ∷ cs); ran = then_run Opened (Name (c ∷ [])) c cs _ (rw is.0 refl) (tag_name_run (c ∷ []) cs is.1); bad = λ b e f. rw (e, f) refl; long = λ h. is_above 64 (length (c ∷ cs)) h }
@@ -184,11 +190,13 @@ name_run (in_end_tag [] is) = absurd is
 name_run (in_end_tag (c ∷ cs) is) = record { state = EndName (c ∷ cs); ran = then_run EndOpened (EndName (c ∷ [])) c cs _ (rw is.0 refl) (end_name_run (c ∷ []) cs is.1); bad = λ b e f. rw (e, f) refl; long = λ h. is_above 64 (length (c ∷ cs)) h }
 name_run (in_attribute head tag blanks name is some are named) = record { state = AttributeName tag name; ran = attribute_part_run head tag blanks name is some are named; bad = λ b e f. rw (e, f) refl; long = λ h. rw (is_above 64 (length name) h) refl }
 
+-- the machine runs over a tag up to the quote of a value, and on
 pub opened_run : (head : List ℕ) (tag : Tag) (quote : ℕ) (name opening rest : List ℕ) (n : Next) → IsHead head tag → IsOpening quote name opening → run (value_at tag name quote 0 []) rest ≡ n → run Between (head ++ (opening ++ rest)) ≡ n
 opened_run head tag quote name opening rest n is opens h =
     let ran = head_run is in
     chained Between ran.state head (opening ++ rest) n ran.ran (chained ran.state (value_at tag name quote 0 []) opening rest n (opening_run tag ran.state quote name opening ran.tagged opens) h)
 
+-- equal lists have equal last items
 pub push_same : (xs ys : List ℕ) (a b : ℕ) → xs ++ (a ∷ []) ≡ ys ++ (b ∷ []) → (xs ≡ ys) × (a ≡ b)
 push_same [] [] a b h = (refl, cc)
 push_same [] (y ∷ ys) a b h = absurd (nil_push ys (cc))
@@ -233,6 +241,7 @@ some_length : (digits : List ℕ) → digits ≢ [] → nat_lt 0 (0 + length dig
 some_length [] some = absurd (some refl)
 some_length (d ∷ ds) some = grind (arith, nat_tests)
 
+-- what ends badly, the machine finds
 pub bad_complete : {part : List ℕ} {b : ℕ} → IsBadEnd part b → EndsBadly part b
 bad_complete (bad_name part name b ends other bad) = let n = name_run ends in record { state = n.state; ran = n.ran; bad = n.bad b other bad }
 bad_complete (bad_value head tag quote name opening raw value is opens raws bad) = record {

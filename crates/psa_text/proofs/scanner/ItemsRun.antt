@@ -16,10 +16,12 @@ abbrev pub ended : Item → List ℕ → Next
 ended item [] = Whole item
 ended item (b ∷ bs) = Broken
 
+-- where the machine stands behind these bytes
 abbrev pub run : Lex → List ℕ → Next
 run p [] = Within p
 run p (b ∷ bs) = elim (next p b) [ Broken ↦ Broken | Within q ↦ run q bs | Whole item ↦ ended item bs ]
 
+-- the same, from what a first byte did
 abbrev pub onward : List ℕ → Next → Next
 onward bs n = elim n [ Broken ↦ Broken | Within q ↦ run q bs | Whole item ↦ ended item bs ]
 
@@ -27,9 +29,11 @@ onward bs n = elim n [ Broken ↦ Broken | Within q ↦ run q bs | Whole item �
 pub then_run : (p q : Lex) (b : ℕ) (bs : List ℕ) (n : Next) → next p b ≡ Within q → run q bs ≡ n → run p (b ∷ bs) ≡ n
 then_run p q b bs n e h = ap (onward bs) e ∙ h
 
+-- the last byte of an item
 pub last_run : (p : Lex) (item : Item) (b : ℕ) → next p b ≡ Whole item → run p (b ∷ []) ≡ Whole item
 last_run p item b e = ap (onward []) e
 
+-- no byte stands behind the last of an item
 pub over : (item : Item) (u : List ℕ) (q : Lex) → ended item u ≡ Within q → ⊥
 over item [] q h = cc
 over item (c ∷ u) q h = cc
@@ -39,10 +43,12 @@ chain_on Broken q u v on h = absurd (cc)
 chain_on (Within r) q u v on h = on r h
 chain_on (Whole item) q u v on h = absurd (over item u q h)
 
+-- one run behind another
 pub chain : (p q : Lex) (u v : List ℕ) → run p u ≡ Within q → run p (u ++ v) ≡ run q v
 chain p q [] v h = let e : p ≡ q = cc in rw e refl
 chain p q (b ∷ u) v h = chain_on (next p b) q u v (λ r k. chain r q u v k) h
 
+-- the same, with its result
 pub chained : (p q : Lex) (u v : List ℕ) (n : Next) → run p u ≡ Within q → run q v ≡ n → run p (u ++ v) ≡ n
 chained p q u v n h k = chain p q u v h ∙ k
 
@@ -59,9 +65,11 @@ blank_no_mark b e = (grind (arith, nat_tests, e), grind (arith, nat_tests, e))
 quote_no_blank : (b : ℕ) → is_quote b ≡ true → is_blank b ≡ false
 quote_no_blank b e = grind (arith, nat_tests, e)
 
+-- a quote is no ampersand
 pub quote_no_ampersand : (b : ℕ) → is_quote b ≡ true → (38 == b) ≡ false
 quote_no_ampersand b e = grind (arith, nat_tests, e)
 
+-- a decimal digit is no `x`
 pub digit_no_x : (b : ℕ) → is_digit_of 10 b ≡ true → (b == 120) ≡ false
 digit_no_x b e = grind (arith, nat_tests, e)
 
@@ -71,6 +79,7 @@ doctype_no_end b e = grind (arith, nat_tests, e)
 value_no_quote : (quote b : ℕ) → is_value_byte quote b ≡ true → ((b == quote) ≡ false) × ((b == 38) ≡ false) × ((b == 60) ≡ false)
 value_no_quote quote b e = (grind (arith, nat_tests, e), grind (arith, nat_tests, e), grind (arith, nat_tests, e))
 
+-- a byte is equal to itself
 pub same : (b : ℕ) → (b == b) ≡ true
 same b = grind (arith, nat_tests)
 
@@ -83,9 +92,11 @@ blanks_run : (p : Lex) → ((b : ℕ) → is_blank b ≡ true → next p b ≡ W
 blanks_run p step [] are = refl
 blanks_run p step (b ∷ bs) are = then_run p p b bs _ (step b are.0) (blanks_run p step bs are.1)
 
+-- over the further bytes of a tag's name
 pub tag_name_run : (n bs : List ℕ) → AllPass is_name_byte bs → run (Name n) bs ≡ Within (Name (n ++ bs))
 tag_name_run n bs are = names_run Name (λ n b e. rw e refl) n bs are
 
+-- over the further bytes of an end tag's name
 pub end_name_run : (n bs : List ℕ) → AllPass is_name_byte bs → run (EndName n) bs ≡ Within (EndName (n ++ bs))
 end_name_run n bs are = names_run EndName (λ n b e. rw e refl) n bs are
 
@@ -105,10 +116,12 @@ no_start b e = grind (arith, nat_tests, e)
 gap_state : (tag : Tag) → TagState tag (Gap tag)
 gap_state tag = record { on = λ b e. rw (no_start b e) refl }
 
+-- over the blanks in a tag
 pub gap_run : (tag : Tag) (p : Lex) (bs : List ℕ) → TagState tag p → bs ≢ [] → AreBlanks bs → run p bs ≡ Within (Gap tag)
 gap_run tag p [] state some are = absurd (some refl)
 gap_run tag p (b ∷ bs) state some are = then_run p (Gap tag) b bs _ (state.on b (blank_no_name b are.0) ∙ rw ((blank_no_mark b are.0).0, (blank_no_mark b are.0).1, are.0) refl) (blanks_run (Gap tag) (gap_on tag) bs are.1)
 
+-- the machine runs over a tag up to a state behind whole attributes
 pub record RanTo (tag : Tag) (p : Lex) (w : List ℕ) : Type 0 where
   pub state : Lex
   pub ran : run p w ≡ Within state
@@ -137,6 +150,7 @@ some_digits (d ∷ ds) some = grind (arith, nat_tests)
 number_ends : (base : ℕ) (v : Inside) (count number : ℕ) → is_digit_of base 59 ≡ false → nat_lt 0 count ≡ true → run (Refer v (Digits base count number)) (59 ∷ []) ≡ Within (Value (with_bytes v (bytes_of_reference number)))
 number_ends base v count number other some = then_run (Refer v (Digits base count number)) (Value (with_bytes v (bytes_of_reference number))) 59 [] _ (rw (other, some) refl) refl
 
+-- over a reference
 pub reference_run : {r : List ℕ} {code : ℕ} (v : Inside) → (38 == v.quote) ≡ false → IsReference r code → run (Value v) r ≡ Within (Value (record v { count = v.count + length r; value = v.value ++ bytes_of_reference code }))
 reference_run v e is_less = then_run (Value v) (Refer (with_byte_counted v) Ampersand) 38 (108 ∷ 116 ∷ 59 ∷ []) _ (rw e refl) (recount v (v.value ++ bytes_of_reference 60) (v.count + 1 + 1 + 1 + 1) (v.count + 4) (omega arith))
 reference_run v e is_greater = then_run (Value v) (Refer (with_byte_counted v) Ampersand) 38 (103 ∷ 116 ∷ 59 ∷ []) _ (rw e refl) (recount v (v.value ++ bytes_of_reference 62) (v.count + 1 + 1 + 1 + 1) (v.count + 4) (omega arith))
@@ -163,6 +177,7 @@ reference_run v e (is_hexadecimal digits some small are) =
 abbrev pub value_at : Tag → List ℕ → ℕ → ℕ → List ℕ → Lex
 value_at tag name quote count value = Value (record { tag = tag; name = name; quote = quote; count = count; value = value })
 
+-- over the bytes of a value
 pub raw_run : {quote : ℕ} {raw value : List ℕ} (tag : Tag) (name : List ℕ) → is_quote quote ≡ true → IsRaw quote raw value → run (value_at tag name quote 0 []) raw ≡ Within (value_at tag name quote (length raw) value)
 raw_run tag name q (no_byte quote) = refl
 raw_run tag name q (and_byte quote raw value b is plain) =
@@ -187,10 +202,12 @@ equals_run tag name (b ∷ before) after befores afters =
     (blanks_run (AttributeGap tag name) (gap_name_on tag name) before befores.1)
     (blanks_run (Equals tag name) (equals_on tag name) after afters))
 
+-- over the name of an attribute
 pub attribute_run : (tag : Tag) (name : List ℕ) → IsName name → run (Gap tag) name ≡ Within (AttributeName tag name)
 attribute_run tag [] is = absurd is
 attribute_run tag (b ∷ bs) is = then_run (Gap tag) (AttributeName tag (b ∷ [])) b bs _ (rw is.0 refl) (attribute_name_run tag (b ∷ []) bs is.1)
 
+-- over what stands before a value
 pub opening_run : (tag : Tag) (p : Lex) (quote : ℕ) (name w : List ℕ) → TagState tag p → IsOpening quote name w → run p w ≡ Within (value_at tag name quote 0 [])
 opening_run tag p quote name w state is =
     rw (is.spelled, append_assoc (is.blanks ++ name) is.before (61 ∷ is.after))
@@ -200,6 +217,7 @@ opening_run tag p quote name w state is =
     (equals_run tag name is.before is.after is.are_before is.are_after))
     (then_run (Equals tag name) (value_at tag name quote 0 []) quote [] _ (rw (quote_no_blank quote is.is_quote, is.is_quote) refl) refl))
 
+-- over a tag with its whole attributes
 pub head_run : {w : List ℕ} {tag : Tag} → IsHead w tag → RanTo tag Between w
 head_run (head_name [] is) = absurd is
 head_run (head_name (b ∷ bs) is) = record { state = Name (b ∷ bs); ran = then_run Opened (Name (b ∷ [])) b bs _ (rw is.0 refl) (tag_name_run (b ∷ []) bs is.1); tagged = record { on = λ b e. rw e refl } }

@@ -38,6 +38,7 @@ pub piece_read : (h piece rest : List ℕ) (s t : Scan) → length rest < 1 → 
 piece_read h piece rest s t few read went =
     ap (λ xs. scan_after_bytes start_scan (h ++ xs)) (went.joined ∙ ap (λ xs. went.span ++ xs) (no_more rest few) ∙ append-nil went.span) ∙ reads_then start_scan s h went.span (Ok t) read went.read
 
+-- the error of a piece
 pub feed_error : (h piece rest more : List ℕ) (b : ℕ) (s t : Scan) (now : Scanner) (error : TextError) → scan_after_bytes start_scan h ≡ Ok s → ReadsSpan s piece t rest → rest ≡ b ∷ more → Steps (scan_after t b) now (Err error) → (last : Scanner) → Answers (h ++ piece) last (Err error)
 feed_error h piece rest more b s t now (Fault found) read went is e last =
     first_fault (h ++ went.span) t b more (h ++ piece) found (reads_then start_scan s h went.span (Ok t) read went.read) e

@@ -19,26 +19,32 @@ pub record Reading : Type 0 where
   pub start : ℕ
   pub lex : Lex
 
+-- before the first byte
 abbrev pub first : Reading
 first = record { items = []; line = 1; start = 1; lex = Between }
 
+-- the reading after what a byte does
 abbrev pub read_next : Reading → ℕ → Next → Option Reading
 read_next r b Broken = None
 read_next r b (Within q) = Some (record { items = r.items; line = line_after_byte r.line b; start = r.start; lex = q })
 read_next r b (Whole item) = Some (record { items = r.items ++ ((item, r.start) ∷ []); line = line_after_byte r.line b; start = line_after_byte r.line b; lex = Between })
 
+-- and then, where there is a reading
 abbrev pub and_on : Option Reading → (Reading → Option Reading) → Option Reading
 and_on None f = None
 and_on (Some r) f = f r
 
+-- the reading after these bytes
 abbrev pub read_all : Reading → List ℕ → Option Reading
 read_all r [] = Some r
 read_all r (b ∷ bs) = and_on (read_next r b (next r.lex b)) (λ t. read_all t bs)
 
+-- bytes in two parts are read one behind the other
 pub read_all-append : (r : Reading) (u v : List ℕ) → read_all r (u ++ v) ≡ and_on (read_all r u) (λ t. read_all t v)
 read_all-append r [] v = refl
 read_all-append r (b ∷ u) v = elim (read_next r b (next r.lex b)) as (λ o. and_on o (λ t. read_all t (u ++ v)) ≡ and_on (and_on o (λ t. read_all t u)) (λ t. read_all t v)) [ None ↦ refl | Some t ↦ read_all-append t u v ]
 
+-- the same, where the first part is read
 pub read_then : (r s : Reading) (u v : List ℕ) → read_all r u ≡ Some s → read_all r (u ++ v) ≡ read_all s v
 read_then r s u v h = read_all-append r u v ∙ rw h refl
 
@@ -46,6 +52,7 @@ and_some : (o : Option Reading) → and_on o (λ t. Some t) ≡ o
 and_some None = refl
 and_some (Some r) = refl
 
+-- the same, for one more byte
 pub read_one : (r s : Reading) (u : List ℕ) (b : ℕ) → read_all r u ≡ Some s → read_all r (u ++ (b ∷ [])) ≡ read_next s b (next s.lex b)
 read_one r s u b h = read_then r s u (b ∷ []) h ∙ and_some (read_next s b (next s.lex b))
 
@@ -54,6 +61,7 @@ fold-push : {A B : Type 0} (f : B → A → B) (a : B) (xs : List A) (x : A) →
 fold-push f a [] x = refl
 fold-push f a (y ∷ ys) x = fold-push f (f a y) ys x
 
+-- a count with one more item
 pub count-push : {X : Type 0} (test : X → Bool) (xs : List X) (x : X) → count_by test (xs ++ (x ∷ [])) ≡ count_by test xs + (if test x then 1 else 0)
 count-push test xs x = fold-push _ 0 xs x
 
@@ -61,6 +69,7 @@ line_by : (t : Bool) (count : ℕ) → 1 + (count + (if t then 1 else 0)) ≡ (i
 line_by true count = omega arith
 line_by false count = omega arith
 
+-- the line behind one more byte
 pub line-push : (bytes : List ℕ) (b : ℕ) → line_after (bytes ++ (b ∷ [])) ≡ line_after_byte (line_after bytes) b
 line-push bytes b = ap (λ n. 1 + n) (count-push (λ c. c == 10) bytes b) ∙ line_by (b == 10) (count_by (λ c. c == 10) bytes)
 
@@ -74,6 +83,7 @@ pub record Standing (bytes : List ℕ) (r : Reading) : Type 0 where
   pub line : r.line ≡ line_after bytes
   pub start : r.start ≡ line_after before
 
+-- a reading, if there is one, says what it should of the bytes
 abbrev pub StandingAt : List ℕ → Option Reading → Type 0
 StandingAt bytes None = Unit {0}
 StandingAt bytes (Some r) = Standing bytes r
@@ -102,6 +112,7 @@ standing_next bytes r b s (Whole item) w =
       start = line ∙ ap line_after joined;
     }
 
+-- one more byte keeps what a reading says
 pub standing_step : (bytes : List ℕ) (r : Reading) (b : ℕ) → Standing bytes r → StandingAt (bytes ++ (b ∷ [])) (read_next r b (next r.lex b))
 standing_step bytes r b s = standing_next bytes r b s (next r.lex b) (item_step b s.reached)
 
@@ -116,6 +127,7 @@ standing_all bytes r (b ∷ bs) s = standing_on bytes b bs (read_next r b (next 
 standing_first : Standing [] first
 standing_first = record { before = []; part = []; are = no_item; reached = at_between; joined = refl; line = refl; start = refl }
 
+-- what is read from the start says what it should
 pub standing : (bytes : List ℕ) (r : Reading) → read_all first bytes ≡ Some r → Standing bytes r
 standing bytes r h = subst (StandingAt bytes) h (standing_all [] first bytes standing_first)
 
@@ -139,10 +151,12 @@ run_on items before all b bs q Broken on h = absurd (cc)
 run_on items before all b bs q (Within p) on h = rw (← line-push all b) (on p h ∙ rw (append_assoc all (b ∷ []) bs) refl)
 run_on items before all b bs q (Whole item) on h = absurd (over item bs q h)
 
+-- a run within an item is read
 pub run_reads : (items : List Placed) (before all : List ℕ) (p q : Lex) (bs : List ℕ) → run p bs ≡ Within q → read_all (at_lex items before all p) bs ≡ Some (at_lex items before (all ++ bs) q)
 run_reads items before all p q [] h = let e : p ≡ q = cc in rw (e, append-nil all) refl
 run_reads items before all p q (b ∷ bs) h = run_on items before all b bs q (next p b) (λ t k. run_reads items before (all ++ (b ∷ [])) t q bs k) h
 
+-- the reading behind a whole item
 abbrev pub behind_item : List Placed → List ℕ → Item → List ℕ → Reading
 behind_item items before item all = record { items = items ++ ((item, line_after before) ∷ []); line = line_after all; start = line_after all; lex = Between }
 
@@ -152,10 +166,12 @@ whole_on items before all b bs item (Within p) on h = rw (← line-push all b) (
 whole_on items before all b [] item (Whole other) on h = let e : other ≡ item = cc in rw (e, ← line-push all b) refl
 whole_on items before all b (c ∷ bs) item (Whole other) on h = absurd (cc)
 
+-- a run over a whole item is read
 pub whole_reads : (items : List Placed) (before all : List ℕ) (p : Lex) (item : Item) (bs : List ℕ) → run p bs ≡ Whole item → read_all (at_lex items before all p) bs ≡ Some (behind_item items before item (all ++ bs))
 whole_reads items before all p item [] h = absurd (cc)
 whole_reads items before all p item (b ∷ bs) h = whole_on items before all b bs item (next p b) (λ t k. whole_reads items before (all ++ (b ∷ [])) t item bs k) h
 
+-- the items of the grammar are read
 pub items_read : {items : List Placed} {bytes : List ℕ} → AreItems items bytes → read_all first bytes ≡ Some (at_lex items bytes bytes Between)
 items_read no_item = refl
 items_read (and_item items before item bytes are is) =
@@ -177,6 +193,7 @@ part_some bytes r h other nil =
     lex_or None = Between
     lex_or (Some r) = r.lex
 
+-- a reading within an item has its part
 pub within : (bytes : List ℕ) (r : Reading) (h : read_all first bytes ≡ Some r) → r.lex ≢ Between → IsWithin bytes r.items r.start (standing bytes r h).part
 within bytes r h other =
     let s = standing bytes r h in

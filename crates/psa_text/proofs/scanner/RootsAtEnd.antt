@@ -39,6 +39,7 @@ no_document items t nested none root is =
     let same : t ≡ record { open_elements = []; root = Some root } = some_same (sym nested ∙ document_nests is) in
     none_some (sym none ∙ ap finished_root same)
 
+-- what the end gives: the tree, or the fault there
 abbrev pub EndOutcome : List ℕ → Result Element TextFault → Type 0
 EndOutcome h (Ok root) = IsTree h root
 EndOutcome h (Err found) = EndsIn h found
@@ -59,6 +60,7 @@ root_outcome : (h : List ℕ) (line : ℕ) (items : List Placed) (t : State) (o 
 root_outcome h line items t (Some root) at are nested e = record { items = items; are = are; is_document = finished_document root (nested_stands items t nested) e }
 root_outcome h line items t None at are nested e = rw (at) (no_tree h items are (no_document items t nested e))
 
+-- the end of what was read gives what it should
 pub end_outcome : (h : List ℕ) (s : Scan) → scan_after_bytes start_scan h ≡ Ok s → EndOutcome h (root_at_end s)
 end_outcome h s e =
     let all = fits h s e in
@@ -69,17 +71,22 @@ end_outcome h s e =
     (λ between. root_outcome h r.line r.items f.state (finished_root f.state) (sym (ap (λ u. u.line) f.is) ∙ line_is h s all) (between_items (unmarked h) r (standing (unmarked h) r f.read) between) f.nested refl)
     (λ inside. in_item h r.items r.start (standing (unmarked h) r f.read).part (within (unmarked h) r f.read (λ k. true_false (sym (ap is_between k) ∙ inside)))))
 
+-- a root at the end is that of the tree
 pub end_ok : (h : List ℕ) (s : Scan) (root : Element) → scan_after_bytes start_scan h ≡ Ok s → root_at_end s ≡ Ok root → IsTree h root × NoFault h
 end_ok h s root e is = (subst (EndOutcome h) is (end_outcome h s e), no_fault h s e)
 
+-- an error at the end is the fault there
 pub end_err : (h : List ℕ) (s : Scan) (found : TextFault) → scan_after_bytes start_scan h ≡ Ok s → root_at_end s ≡ Err found → EndsIn h found × NoFault h
 end_err h s found e is = (subst (EndOutcome h) is (end_outcome h s e), no_fault h s e)
 
+-- the end has a root
 pub ended_ok : (s : Scan) (root : Element) → is_between s.lex ≡ true → finished_root s.nesting ≡ Some root → root_at_end s ≡ Ok root
 ended_ok s root e f = rw (e, f) refl
 
+-- the end has no root
 pub ended_open : (s : Scan) → is_between s.lex ≡ true → finished_root s.nesting ≡ None → root_at_end s ≡ Err (fault BadNesting s.line)
 ended_open s e f = rw (e, f) refl
 
+-- the end stands within an item
 pub ended_inside : (s : Scan) → is_between s.lex ≡ false → root_at_end s ≡ Err (fault BadMarkup s.start)
 ended_inside s e = rw e refl

@@ -24,6 +24,7 @@ before_place stop hay place rest first e = record {
   passes = others stop place hay (omega (arith, first.0.high)) (λ j lt found. first.0.before j (omega arith) lt found);
 }
 
+-- where the byte is nowhere, all bytes are others
 pub no_place : (stop : ℕ) (hay : List ℕ) → IsFirstByte (is_byte stop) hay None → IsBehind (is_other stop) hay []
 no_place stop hay none = record {
   span = hay;

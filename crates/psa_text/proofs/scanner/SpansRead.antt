@@ -106,6 +106,7 @@ within-append (b ∷ bs) v p q r h k = on (begins_tag p b) (judgement p b) h (λ
     on false (Done item) h rest = absurd (cc)
     on false (On s) h rest = rest s h
 
+-- no byte keeps the state
 pub within_none : (p : Lex) (bytes : List ℕ) → ReadsWithin p bytes p bytes
 within_none p bytes = record { span = []; joined = refl; leads = refl }
 
@@ -122,12 +123,15 @@ within_same : (p : Lex) (test : ℕ → Bool) → ((b : ℕ) → test b ≡ true
 within_same p test stays [] passes = refl
 within_same p test stays (b ∷ bs) passes = rw ((stays b passes.0).0, (stays b passes.0).1) (within_same p test stays bs passes.1)
 
+-- a comment goes on at any byte but a hyphen
 pub other_in_comment : (b : ℕ) → is_other 45 b ≡ true → (begins_tag InComment b ≡ false) × (judgement InComment b ≡ On InComment)
 other_in_comment b h = (refl, rw (not_it (b == 45) h) refl)
 
+-- an instruction goes on at any byte but a question mark
 pub other_in_instruction : (b : ℕ) → is_other 63 b ≡ true → (begins_tag InInstruction b ≡ false) × (judgement InInstruction b ≡ On InInstruction)
 other_in_instruction b h = (refl, rw (not_it (b == 63) h) refl)
 
+-- bytes at which an item goes on in the same state
 pub behind_same : (p : Lex) (test : ℕ → Bool) (bytes rest : List ℕ) → ((b : ℕ) → test b ≡ true → (begins_tag p b ≡ false) × (judgement p b ≡ On p)) → IsBehind test bytes rest → ReadsWithin p bytes p rest
 behind_same p test bytes rest stays h = record { span = h.span; joined = h.joined; leads = within_same p test stays h.span h.passes }
 
@@ -139,6 +143,7 @@ module _ (mark : Mark) (passed : mark ≡ Passed) (count line start elements : �
   abbrev before : Lex → Scan
   before lex = record { mark = mark; count = count; line = line; start = start; elements = elements; lex = lex; nesting = nest }
 
+  -- bytes within an item are read in one go
   pub span_within : (p q : Lex) (bytes rest : List ℕ) → count + length bytes ≤ 67108864 → (h : ReadsWithin p bytes q rest)
       → ReadsSpan (before p) bytes (record (before p) { count = count + length h.span; line = line_after_bytes line h.span; lex = q }) rest
   span_within p q bytes rest room h = record {
@@ -147,6 +152,7 @@ module _ (mark : Mark) (passed : mark ≡ Passed) (count line start elements : �
     read = rw passed (within_read elements nest h.span count line start p q h.leads (short h.span rest bytes count h.joined room));
   }
 
+  -- texts that change nothing but the counts are read in one go
   pub span_texts : (t : Bool) → in_label nest.open_elements ≡ t → (bytes rest : List ℕ) → count + length bytes ≤ 67108864 → (h : IsBehind (is_quiet t) bytes rest) → h.span ≢ []
       → ReadsSpan (before Between) bytes (record (before Between) { count = count + length h.span; line = line_after_bytes line h.span; start = line_after_bytes line h.span }) rest
   span_texts t e bytes rest room h some = record {
@@ -155,6 +161,7 @@ module _ (mark : Mark) (passed : mark ≡ Passed) (count line start elements : �
     read = rw passed (texts_read elements nest t e h.span some count line start h.passes (short h.span rest bytes count h.joined room));
   }
 
+-- a list whose length is not 0 has an item
 pub not_none : (xs : List ℕ) → false ≡ (length xs == 0) → xs ≢ []
 not_none [] h = absurd (cc)
 not_none (x ∷ xs) h = λ e. cc

@@ -91,6 +91,7 @@ closes_end_name n w r = last (EndName n) w 62 (End n) refl r
 closes_name : (n w : List ℕ) → Reached (Name n) w → Closes w
 closes_name n w r = last (Name n) w 62 (Start (record { name = n; attributes = [] })) refl r
 
+-- each state that is reached is behind the part of an item
 pub closes : {p : Lex} {w : List ℕ} → Reached p w → Closes w
 closes at_between = record { item = Text 32; byte = 32; more = []; is_item = item_step 32 at_between }
 closes at_opened = via Opened (60 ∷ []) 97 (Name (97 ∷ [])) refl (closes_name (97 ∷ [])) at_opened

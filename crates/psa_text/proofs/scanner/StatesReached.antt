@@ -6,12 +6,13 @@ use Rattle.std.proofs.lemmas.List.{length-append}
 use Rattle.psa_text.specs.declared.token.Tag.{Tag}
 use Rattle.psa_text.specs.TextBytes.{AllPass, is_blank, AreBlanks, IsName, is_name_start, is_name_byte, is_quote, is_doctype_byte, is_value_byte, is_digit_of, digit_of, spaced, number_behind}
 use Rattle.psa_text.specs.TextItems.{IsReference, is_less, is_greater, is_ampersand, is_quotation, is_apostrophe, is_decimal, is_hexadecimal, IsRaw, no_byte, and_byte, and_reference, bytes_of_reference, IsOpening, with_attribute, IsHead, head_name, head_more, behind_first, IsItem, is_text, is_instruction, is_comment, is_doctype, is_start, is_empty, is_end}
-use Rattle.psa_text.specs.scanner.Machine.{Inside, Reference, Ampersand, LetterA, Named, NumberSign, Digits, Lex, Between, Opened, InInstruction, Question, Bang, BangDash, InComment, Dash, DashDash, Word, InDoctype, Name, Gap, Slash, AttributeName, AttributeGap, Equals, Value, Refer, Behind, EndOpened, EndName, EndGap, Next, Broken, Within, Whole, doctype_letters, next_in_tag, next_behind_attribute, next_behind_end_name, with_byte_counted, with_bytes, next_reference, next_in_reference, next}
+use Rattle.psa_text.specs.scanner.Machine.{Inside, Reference, Ampersand, LetterA, Named, NumberSign, Digits, Lex, Between, Opened, InInstruction, Question, Bang, BangDash, InComment, Dash, DashDash, Word, InDoctype, Name, Gap, Slash, AttributeName, AttributeGap, Equals, Value, Refer, Behind, EndOpened, EndName, EndGap, Next, Broken, Within, Whole, doctype_letters, next_in_tag, next_behind_name, next_behind_end, with_byte_counted, with_bytes, next_reference, next_in_reference, next}
 
 -- the end marks of an instruction and of a comment
 abbrev pub instruction_end : List ℕ
 instruction_end = 63 ∷ 62 ∷ []
 
+-- the end of a comment
 abbrev pub comment_end : List ℕ
 comment_end = 45 ∷ 45 ∷ 62 ∷ []
 
@@ -56,32 +57,40 @@ Went w Broken = Unit {0}
 Went w (Within q) = Reached q w
 Went w (Whole item) = IsItem item w
 
+-- a test, by its two cases
 pub choose : {A : Type 0} (P : A → Type 0) (t : Bool) (x y : A) → (t ≡ true → P x) → (t ≡ false → P y) → P (if t then x else y)
 choose P true x y f g = f refl
 choose P false x y f g = g refl
 
+-- bytes that test equal are equal
 pub equal : (a b : ℕ) → (a == b) ≡ true → a ≡ b
 equal a b h = grind (arith, nat_tests, h)
 
+-- both tests of a conjunction hold
 pub and_true : (a b : Bool) → (a && b) ≡ true → (a ≡ true) × (b ≡ true)
 and_true true b h = (refl, h)
 and_true false b h = absurd (cc)
 
+-- one more that passes
 pub all_push : (test : ℕ → Bool) (xs : List ℕ) (b : ℕ) → AllPass test xs → test b ≡ true → AllPass test (xs ++ (b ∷ []))
 all_push test [] b h k = (k, tt)
 all_push test (x ∷ xs) b h k = (h.0, all_push test xs b h.1 k)
 
+-- a list with one more item is not empty
 pub some_push : (xs : List ℕ) (b : ℕ) → (xs ++ (b ∷ [])) ≢ []
 some_push [] b = λ h. cc
 some_push (x ∷ xs) b = λ h. cc
 
+-- one more byte of a name
 pub name_push : (n : List ℕ) (b : ℕ) → IsName n → is_name_byte b ≡ true → IsName (n ++ (b ∷ []))
 name_push [] b h k = absurd h
 name_push (x ∷ xs) b h k = (h.0, all_push is_name_byte xs b h.1 k)
 
+-- the length with one more item
 pub length-push : (xs : List ℕ) (b : ℕ) → length (xs ++ (b ∷ [])) ≡ length xs + 1
 length-push xs b = simp length-append
 
+-- the number with one more digit
 pub spelled-push : (base number : ℕ) (digits : List ℕ) (b : ℕ) → number_behind base number (digits ++ (b ∷ [])) ≡ base * number_behind base number digits + digit_of b
 spelled-push base number [] b = refl
 spelled-push base number (d ∷ ds) b = spelled-push base (base * number + digit_of d) ds b
@@ -97,7 +106,7 @@ tag_on_went head tag blanks b is are =
     (λ e. at_gap head tag (blanks ++ (b ∷ [])) is (some_push blanks b) (all_push is_blank blanks b are e))
     (λ _. tt)))
 
-name_on_went : (head : List ℕ) (tag : Tag) (blanks name before : List ℕ) (b : ℕ) → IsHead head tag → blanks ≢ [] → AreBlanks blanks → IsName name → AreBlanks before → Went (head ++ (blanks ++ name ++ (before ++ (b ∷ [])))) (next_behind_attribute tag name b)
+name_on_went : (head : List ℕ) (tag : Tag) (blanks name before : List ℕ) (b : ℕ) → IsHead head tag → blanks ≢ [] → AreBlanks blanks → IsName name → AreBlanks before → Went (head ++ (blanks ++ name ++ (before ++ (b ∷ [])))) (next_behind_name tag name b)
 name_on_went head tag blanks name before b is some are named befores =
     choose (Went (head ++ (blanks ++ name ++ (before ++ (b ∷ []))))) (is_blank b) _ _
     (λ e. at_attribute_gap head tag blanks name (before ++ (b ∷ [])) is some are named (all_push is_blank before b befores e))
@@ -105,7 +114,7 @@ name_on_went head tag blanks name before b is some are named befores =
     (λ e. rw (equal b 61 e, ← append_assoc (blanks ++ name) before (61 ∷ [])) (at_equals head tag blanks name before [] is some are named befores tt))
     (λ _. tt))
 
-end_on_went : (n blanks : List ℕ) (b : ℕ) → IsName n → AreBlanks blanks → Went (60 ∷ 47 ∷ (n ++ (blanks ++ (b ∷ [])))) (next_behind_end_name n b)
+end_on_went : (n blanks : List ℕ) (b : ℕ) → IsName n → AreBlanks blanks → Went (60 ∷ 47 ∷ (n ++ (blanks ++ (b ∷ [])))) (next_behind_end n b)
 end_on_went n blanks b named are =
     choose (Went (60 ∷ 47 ∷ (n ++ (blanks ++ (b ∷ []))))) (is_blank b) _ _
     (λ e. at_end_gap n (blanks ++ (b ∷ [])) named (all_push is_blank blanks b are e))
@@ -115,9 +124,11 @@ end_on_went n blanks b named are =
 
 -- one more byte of a reference
 module _ (head : List ℕ) (tag : Tag) (quote : ℕ) (name opening raw value : List ℕ) (count : ℕ) (is : IsHead head tag) (opens : IsOpening quote name opening) (raws : IsRaw quote raw value) where
+  -- the value under way
   abbrev pub inside : Inside
   inside = record { tag = tag; name = name; quote = quote; count = count; value = value }
 
+  -- what a byte of a reference leads to
   abbrev pub Refers : List ℕ → ℕ → Next → Type 0
   Refers part b = Went (head ++ (opening ++ (raw ++ (part ++ (b ∷ [])))))
 

@@ -17,6 +17,7 @@ use Rattle.psa_text.specs.scanner.Nesting.{in_label, is_some_open, nesting_after
 use Rattle.psa_text.proofs.scanner.StatesReached.{choose}
 use Rattle.psa_text.proofs.scanner.ByteFacts.{same_bytes}
 
+-- open elements and a root
 abbrev pub state : List Element → Option Element → State
 state elements root = record { open_elements = elements; root = root }
 
@@ -25,11 +26,13 @@ pub data IsOpen : ℕ → List Placed → List Element → Type 0 where
   open_root : (before : List Placed) (tag : Tag) (line : ℕ) (inside : List Placed) (children : List Element) → AllPass is_before_root before → AreElements 63 (is_label tag.name) inside children → IsOpen 63 (before ++ ((Start tag, line) ∷ inside)) (element_of tag line children ∷ [])
   open_under : (room : ℕ) (outer : List Placed) (es : List Element) (tag : Tag) (line : ℕ) (inside : List Placed) (children : List Element) → IsOpen (suc room) outer es → AreElements room (is_label tag.name) inside children → IsOpen room (outer ++ ((Start tag, line) ∷ inside)) (element_of tag line children ∷ es)
 
+-- the items so far are before the root, in it, or behind it
 pub data Stands : List Placed → State → Type 0 where
   before_root : (items : List Placed) → AllPass is_before_root items → Stands items (state [] None)
   in_root : (room : ℕ) (items : List Placed) (es : List Element) → IsOpen room items es → Stands items (state es None)
   behind_root : (items : List Placed) (root : Element) → IsDocument items root → Stands items (state [] (Some root))
 
+-- the same, if the items nest
 abbrev pub StandsAt : List Placed → Option State → Type 0
 StandsAt items None = Unit {0}
 StandsAt items (Some s) = Stands items s
@@ -152,6 +155,7 @@ close_all extra grows (open_under room outer es tag at inside children around wi
     let front = close_all one (λ l i c h. (c ++ (element_of tag at more.0 ∷ []), and_element (suc room) l i c one (element_of tag at more.0) h (is_around room tag at (inside ++ extra) more.0 tag.name 0 more.1 (same_bytes tag.name)))) around in
     ((End tag.name, 0) ∷ front.0, front.1, rw (append_assoc outer ((Start tag, at) ∷ inside) extra, append_assoc outer ((Start tag, at) ∷ (inside ++ extra)) ((End tag.name, 0) ∷ front.0)) (rw (append_assoc outer one front.0, append_assoc (inside ++ extra) ((End tag.name, 0) ∷ []) front.0) at front.2))
 
+-- items so far are the front of a document
 pub stands_front : {items : List Placed} {s : State} → Stands items s → IsDocumentFront items
 stands_front (before_root items are) =
     let tag : Tag = record { name = []; attributes = [] } in
@@ -164,14 +168,17 @@ abbrev pub onward : Option State → (State → Option State) → Option State
 onward None f = None
 onward (Some s) f = f s
 
+-- the state after these items
 abbrev pub nests : List Placed → State → Option State
 nests [] s = Some s
 nests (item ∷ items) s = onward (nesting_after_item item.0 item.1 s) (nests items)
 
+-- items in two parts nest one behind the other
 pub nests-append : (xs ys : List Placed) (s : State) → nests (xs ++ ys) s ≡ onward (nests xs s) (nests ys)
 nests-append [] ys s = refl
 nests-append (x ∷ xs) ys s = elim (nesting_after_item x.0 x.1 s) as (λ r. onward r (nests (xs ++ ys)) ≡ onward (onward r (nests xs)) (nests ys)) [ None ↦ refl | Some t ↦ nests-append xs ys t ]
 
+-- the same, where the first part nests
 pub nests_then : (xs ys : List Placed) (s t : State) (r : Option State) → nests xs s ≡ Some t → nests ys t ≡ r → nests (xs ++ ys) s ≡ r
 nests_then xs ys s t r h k = nests-append xs ys s ∙ rw h k
 
@@ -188,11 +195,13 @@ short : (room : ℕ) (es : List Element) → suc room + length es ≤ 64 → nat
 short room es h = grind (arith, nat_tests, h)
 
 mutual
+  -- the items of an element nest
   pub element_nests : {room : ℕ} {one : List Placed} {e : Element} → IsElement room one e → (es : List Element) → room + length es ≤ 64 → nests one (state es None) ≡ Some (nesting_with_in e es None)
   element_nests (is_empty room tag line) es fits = rw (short room es fits) refl
   element_nests (is_around room tag line inside children name at within same) es fits =
       rw (short room es fits) (nests_then inside ((End name, at) ∷ []) (state (element_of tag line [] ∷ es) None) (state (element_of tag line children ∷ es) None) _ (elements_nest within tag refl line [] es (omega (arith, fits))) (rw (tag_of tag line children, same) refl))
 
+  -- the items of elements nest
   pub elements_nest : {room : ℕ} {label : Bool} {items : List Placed} {children : List Element} → AreElements room label items children → (tag : Tag) → is_label tag.name ≡ label → (line : ℕ) (before : List Element) (es : List Element) → room + suc (length es) ≤ 64 → nests items (state (element_of tag line before ∷ es) None) ≡ Some (state (element_of tag line (before ++ children) ∷ es) None)
   elements_nest (no_element room label) tag is line before es fits = rw (append-nil before) refl
   elements_nest (and_passed room label items children item at are passed) tag is line before es fits =
@@ -219,6 +228,7 @@ behind_nests : (root : Element) (items : List Placed) → AllPass is_behind_root
 behind_nests root [] are = refl
 behind_nests root ((item, line) ∷ items) are = rw (passed_nest item line [] (Some root) are.0) (behind_nests root items are.1)
 
+-- the items of a document nest
 pub document_nests : {items : List Placed} {root : Element} → IsDocument items root → nests items at_start ≡ Some (state [] (Some root))
 document_nests {items} {root} is =
     rw is.joined (nests_then (is.before ++ is.one) is.behind at_start (state [] (Some root)) _

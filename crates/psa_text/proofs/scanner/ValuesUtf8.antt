@@ -132,5 +132,6 @@ reversed_utf8 (b ∷ bytes) = on (b == 32) refl (reversed_utf8 bytes)
 trimmed_utf8 : (bytes : List ℕ) → is_utf8 (trimmed bytes) ≡ is_utf8 bytes
 trimmed_utf8 bytes = reversed_utf8 (reverse (trimmed_front bytes)) ∙ ap is_utf8 (reverse-reverse (trimmed_front bytes)) ∙ trimmed_front_utf8 bytes
 
+-- a finished value is UTF-8 exactly where the bytes between its quotes are
 pub value_utf8 : {quote : ℕ} {raw value : List ℕ} → IsRaw quote raw value → is_utf8 raw ≡ is_utf8 (trimmed value)
 value_utf8 {raw = raw} {value = value} is = ap is_utf8 (sym (append-nil raw)) ∙ raw_utf8 [] is ∙ ap is_utf8 (append-nil value) ∙ sym (trimmed_utf8 value)

@@ -6,6 +6,7 @@ use Rattle.psa_text.specs.scanner.Machine.{Lex, begins_tag}
 use Rattle.psa_text.specs.scanner.View.{Held, Judged, IsBad, IsLong, On, Done, judgement, lex_of}
 use Rattle.psa_text.specs.declared.scanner.Scanner.{Scanner}
 use Rattle.psa_text.specs.scanner.State.{Scan, scan_of, scan_after_bytes}
+use Rattle.psa_text.specs.NamedBytes.{tab, line_feed, carriage_return, ampersand, less_than}
 
 -- where the machine stands after bytes that stay within the item under way; None where one of them does not
 abbrev pub and_within : Judged → (Lex → Option Lex) → Option Lex
@@ -43,7 +44,7 @@ pub record IsBehind (test : ℕ → Bool) (bytes rest : List ℕ) : Type 0 where
 
 -- a byte that a value turns into a space, that begins a reference, or that no value holds
 abbrev pub is_turned : ℕ → Bool
-is_turned b = (b == 60) || (b == 38) || (b == 9) || (b == 10) || (b == 13)
+is_turned b = (b == less_than) || (b == ampersand) || (b == tab) || (b == line_feed) || (b == carriage_return)
 
 -- any byte but one
 abbrev pub is_other : ℕ → ℕ → Bool
@@ -51,12 +52,12 @@ is_other stop b = not (b == stop)
 
 -- the texts that change nothing but the counts: any in a label, else blanks
 abbrev pub is_quiet : Bool → ℕ → Bool
-is_quiet true b = is_other 60 b
+is_quiet true b = is_other less_than b
 is_quiet false b = is_blank b
 
 -- the line after further bytes
 abbrev pub line_after_bytes : ℕ → List ℕ → ℕ
-line_after_bytes line bytes = line + count_by (λ b. b == 10) bytes
+line_after_bytes line bytes = line + count_by (λ b. b == line_feed) bytes
 
 -- Bytes and their lines are counted.
 pub record CountsAll (bytes : List ℕ) (old now : Scanner) : Type 0 where

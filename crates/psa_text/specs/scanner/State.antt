@@ -16,6 +16,8 @@ use Rattle.psa_text.specs.TextFaults.{begins_element, fault, NoFault, FirstFault
 use Rattle.psa_text.specs.scanner.Machine as machine
 use Rattle.psa_text.specs.scanner.View.{lex_of, Judged, IsBad, IsLong, On, Done, judgement}
 use Rattle.psa_text.specs.scanner.Nesting.{nesting_after_item}
+use Rattle.psa_text.specs.NamedBytes.{line_feed, first_mark_byte, second_mark_byte, third_mark_byte}
+use Rattle.psa_text.specs.declared.limits.TheConstants.{MAX_ELEMENTS, MAX_FILE_BYTES}
 
 -- what a scanner stands at: its byte order mark; how many bytes it has read; the line of the next; the line of the
 -- first byte of the item under way or next; how many elements have begun; where in an item; the open elements
@@ -32,7 +34,7 @@ abbrev pub start_scan : Scan
 start_scan = record { mark = Unread; count = 0; line = 1; start = 1; elements = 0; lex = machine.Between; nesting = at_start }
 
 abbrev pub line_after_byte : ℕ → ℕ → ℕ
-line_after_byte line b = if b == 10 then line + 1 else line
+line_after_byte line b = if b == line_feed then line + 1 else line
 
 abbrev pub scan_after_item : Scan → ℕ → Item → Option State → Result Scan TextFault
 scan_after_item s b item None = Err (fault BadNesting s.start)
@@ -45,21 +47,21 @@ scan_after_judged s b (On q) = Ok (record { mark = Passed; count = s.count + 1; 
 scan_after_judged s b (Done item) = scan_after_item s b item (nesting_after_item item s.start s.nesting)
 
 abbrev pub scan_after_item_byte : Scan → ℕ → Result Scan TextFault
-scan_after_item_byte s b = if (s.elements == 1000000) && machine.begins_tag s.lex b then Err (fault LongFile s.line) else scan_after_judged s b (judgement s.lex b)
+scan_after_item_byte s b = if (s.elements == MAX_ELEMENTS) && machine.begins_tag s.lex b then Err (fault LongFile s.line) else scan_after_judged s b (judgement s.lex b)
 
 -- one more byte of the byte order mark
 abbrev pub scan_with_mark : Scan → Mark → Scan
 scan_with_mark s mark = record s { mark = mark; count = s.count + 1 }
 
 abbrev pub scan_after_at : Mark → Scan → ℕ → Result Scan TextFault
-scan_after_at Unread s b = if b == 239 then Ok (scan_with_mark s FirstByte) else scan_after_item_byte s b
-scan_after_at FirstByte s b = if b == 187 then Ok (scan_with_mark s SecondByte) else Err (fault BadNesting 1)
-scan_after_at SecondByte s b = if b == 191 then Ok (scan_with_mark s Passed) else Err (fault BadNesting 1)
+scan_after_at Unread s b = if b == first_mark_byte then Ok (scan_with_mark s FirstByte) else scan_after_item_byte s b
+scan_after_at FirstByte s b = if b == second_mark_byte then Ok (scan_with_mark s SecondByte) else Err (fault BadNesting 1)
+scan_after_at SecondByte s b = if b == third_mark_byte then Ok (scan_with_mark s Passed) else Err (fault BadNesting 1)
 scan_after_at Passed s b = scan_after_item_byte s b
 
 -- the scan after one more byte, or the fault that the byte decides
 abbrev pub scan_after : Scan → ℕ → Result Scan TextFault
-scan_after s b = if s.count == 67108864 then Err (fault LongFile s.line) else scan_after_at s.mark s b
+scan_after s b = if s.count == MAX_FILE_BYTES then Err (fault LongFile s.line) else scan_after_at s.mark s b
 
 -- the same over bytes
 abbrev pub and_then : Result Scan TextFault → (Scan → Result Scan TextFault) → Result Scan TextFault

@@ -1,5 +1,5 @@
 -- What the scanner's types show: the state of the machine that they stand for, and what a byte does to it.
-use Rattle.std.specs.Prelude.{◌≡◌, ℕ, ◌+◌, ◌^◌, ◌<◌, ◌≤◌, true, false, if◌then◌else◌, List, [], ◌∷◌, ◌++◌, length, drop, Option, Some, None, Result, Ok, Err, encode_utf8}
+use Rattle.std.specs.Prelude.{◌≡◌, ℕ, ◌+◌, ◌^◌, ◌<◌, ◌≤◌, true, false, if◌then◌else◌, List, [], ◌∷◌, ◌++◌, length, drop, Option, Some, None, Result, Ok, Err, encode_utf8, codes}
 use Rattle.std.specs.Str.{is_utf8}
 use Rattle.psa_text.specs.declared.token.Tag.{Tag}
 use Rattle.psa_text.specs.declared.scanner.item.Item.{Item}
@@ -14,20 +14,22 @@ use Rattle.psa_text.specs.declared.scanner.lexer.TokenError.TheVariants.{Bad, Lo
 use Rattle.psa_text.specs.TextBytes.{is_character, trimmed}
 use Rattle.psa_text.specs.TextItems.{bytes_of_reference, with_attribute}
 use Rattle.psa_text.specs.scanner.Machine as machine
+use Rattle.psa_text.specs.NamedBytes.{quotation_mark, ampersand, apostrophe, less_than, greater_than}
+use Rattle.psa_text.specs.declared.limits.TheConstants.{MAX_ATTRIBUTES, MAX_NAME_BYTES, MAX_REFERENCE_DIGITS, MAX_VALUE_BYTES}
 
 abbrev pub entity_letters : Entity → List ℕ
-entity_letters entity.Less = 116 ∷ []
-entity_letters entity.Greater = 116 ∷ []
-entity_letters entity.Ampersand = 112 ∷ []
-entity_letters entity.Quotation = 117 ∷ 111 ∷ 116 ∷ []
-entity_letters entity.Apostrophe = 111 ∷ 115 ∷ []
+entity_letters entity.Less = codes "t"
+entity_letters entity.Greater = codes "t"
+entity_letters entity.Ampersand = codes "p"
+entity_letters entity.Quotation = codes "uot"
+entity_letters entity.Apostrophe = codes "os"
 
 abbrev pub entity_character : Entity → ℕ
-entity_character entity.Less = 60
-entity_character entity.Greater = 62
-entity_character entity.Ampersand = 38
-entity_character entity.Quotation = 34
-entity_character entity.Apostrophe = 39
+entity_character entity.Less = less_than
+entity_character entity.Greater = greater_than
+entity_character entity.Ampersand = ampersand
+entity_character entity.Quotation = quotation_mark
+entity_character entity.Apostrophe = apostrophe
 
 -- what the lexer holds
 pub record Held : Type 0 where
@@ -89,22 +91,22 @@ IsInName _ = ⊥
 
 -- what the arrays and counts have room for, in a reference and at a place
 abbrev pub HasReferenceRoom : Reference → Held → Type 0
-HasReferenceRoom (refer.Decimal digits) h = (length h.value + 2 + digits ≤ h.count) × (digits ≤ 8) × (h.number < 16 ^ digits)
-HasReferenceRoom (refer.Hexadecimal digits) h = (length h.value + 3 + digits ≤ h.count) × (digits ≤ 8) × (h.number < 16 ^ digits)
+HasReferenceRoom (refer.Decimal digits) h = (length h.value + 2 + digits ≤ h.count) × (digits ≤ MAX_REFERENCE_DIGITS) × (h.number < 16 ^ digits)
+HasReferenceRoom (refer.Hexadecimal digits) h = (length h.value + 3 + digits ≤ h.count) × (digits ≤ MAX_REFERENCE_DIGITS) × (h.number < 16 ^ digits)
 HasReferenceRoom refer.LetterA h = length h.value + 2 ≤ h.count
 HasReferenceRoom refer.NumberSign h = length h.value + 2 ≤ h.count
 HasReferenceRoom (refer.Named e read) h = length h.value + 2 + read ≤ h.count
 HasReferenceRoom refer.Ampersand h = length h.value + 1 ≤ h.count
 
 abbrev pub HasPlaceRoom : Place → Held → Type 0
-HasPlaceRoom place.AttributeName h = length h.tag.attributes < 32
+HasPlaceRoom place.AttributeName h = length h.tag.attributes < MAX_ATTRIBUTES
 HasPlaceRoom place.Value h = length h.value ≤ h.count
 HasPlaceRoom (place.Refer r) h = HasReferenceRoom r h
 HasPlaceRoom p h = Unit {0}
 
 pub record HasRoom (h : Held) : Type 0 where
   pub place : HasPlaceRoom h.place h
-  pub count : h.count ≤ 512
+  pub count : h.count ≤ MAX_VALUE_BYTES
 
 -- what a byte does, with the limits: it is refused as bad, or as the byte that is one too many; the machine goes on;
 -- or an item is whole
@@ -139,10 +141,10 @@ IsTextOf bytes (Err Memory) = Unit {0}
 
 -- One more byte of the name under way.
 abbrev pub PushesName : ℕ → Held → Held → Result (Option Item) TokenError → Type 0
-PushesName b old now (Ok None) = (length old.name < 64) × (now ≡ record old { name = old.name ++ (b ∷ []) })
+PushesName b old now (Ok None) = (length old.name < MAX_NAME_BYTES) × (now ≡ record old { name = old.name ++ (b ∷ []) })
 PushesName b old now (Ok (Some item)) = ⊥
 PushesName b old now (Err Bad) = ⊥
-PushesName b old now (Err Long) = length old.name ≡ 64
+PushesName b old now (Err Long) = length old.name ≡ MAX_NAME_BYTES
 PushesName b old now (Err Memory) = ⊥
 
 -- One more byte of a value, which leads on to a state of the machine.

@@ -1,5 +1,6 @@
 ghost use Rattle.std.specs.Prelude.{◌≡◌, ◌+◌, ◌*◌, ◌^◌, ◌<◌, ◌≤◌};
 ghost use Rattle.std.specs.Str.{is_utf8};
+ghost use Rattle.psa_text.specs.declared.limits.TheConstants.{MAX_REFERENCE_DIGITS};
 ghost use Rattle.psa_text.specs.TextBytes as spec;
 ghost use Rattle.psa_text.specs.scanner.View.{IsTextOf};
 
@@ -53,7 +54,7 @@ pub fn hexadecimal_digit(byte: u8) -> Option<u32>
 /// The number of so many digits, with one more digit.
 pub fn with_digit(base: u32, number: u32, digits: u8, digit: u32) -> u32
     requires base { base ≤ 16 }
-    requires few { digits < 8 }
+    requires few { digits < MAX_REFERENCE_DIGITS }
     requires number { number < 16 ^ digits }
     requires digit { digit < base }
     ensures value { result ≡ base * number + digit }

@@ -2,16 +2,17 @@ ghost use Rattle.std.specs.Prelude.{◌≡◌};
 
 use thiserror::Error;
 
-/// What is wrong with a text.
+/// What is wrong with a text. The limits are those of [`limits`](crate::limits).
 #[derive(Debug, Clone, Copy, PartialEq, Eq, Drop)]
 pub enum TextKind {
-    /// More than 67,108,864 bytes or 1,000,000 elements.
+    /// More bytes than `MAX_FILE_BYTES`, or more elements than `MAX_ELEMENTS`.
     LongFile,
     /// Bytes that no item has there (XML 1.0, in this project's profile).
     BadMarkup,
-    /// A name of more than 64 bytes, a value of more than 512, or a tag of more than 32 attributes.
+    /// A name of more bytes than `MAX_NAME_BYTES`, a value of more than `MAX_VALUE_BYTES`, or a tag
+    /// of more attributes than `MAX_ATTRIBUTES`.
     LongToken,
-    /// Items that are no tree of depth 64 at most, or a text outside `label`.
+    /// Items that are no tree of depth `MAX_DEPTH` at most, or a text outside `label`.
     BadNesting,
 }
 

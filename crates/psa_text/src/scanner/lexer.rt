@@ -7,6 +7,7 @@ ghost use Rattle.psa_text.specs.scanner.Machine as machine;
 ghost use Rattle.psa_text.specs.scanner.Spans.{ReadsWithin, Takes, is_turned};
 ghost use Rattle.psa_text.specs.scanner.View.{EndsNumber, EndsReference, EndsValue, Goes, HasReferenceRoom, IsInName, PushesName, Refers, judgement, judgement_of, lex_of};
 
+use crate::limits::{MAX_ATTRIBUTES, MAX_NAME_BYTES, MAX_REFERENCE_DIGITS, MAX_VALUE_BYTES};
 use crate::scanner::bytes::{
     decimal_digit, hexadecimal_digit, is_blank, is_name_byte, is_name_start, is_text, text_of,
     trimmed, with_digit,
@@ -22,14 +23,6 @@ use std::alloc::Global;
 use std::marker::Model;
 use std::mem;
 
-/// The greatest number of bytes of a name.
-const MAX_NAME: usize = 64;
-/// The greatest number of bytes of a value.
-const MAX_VALUE: usize = 512;
-/// The greatest number of attributes of a tag.
-const MAX_ATTRIBUTES: usize = 32;
-/// The greatest number of digits of a reference.
-const MAX_DIGITS: u8 = 8;
 /// The letters of a doctype behind `<!D`.
 const DOCTYPE_LETTERS: &[u8] = b"OCTYPE";
 
@@ -51,13 +44,14 @@ impl From<OutOfMemory> for TokenError {
     }
 }
 
-/// Finds the items of a text, byte by byte. Of the item under way it holds one name and one value in
-/// arrays, and the parts of its tag that are whole; it keeps no earlier byte.
+/// Finds the items of a text, byte by byte. Of the item under way it holds the name and the value
+/// under way in arrays of fixed size, and beside them the parts of its tag that are whole: its
+/// name, its attributes, and the name of the next one. It keeps no earlier byte.
 #[derive(Drop)]
 pub struct Lexer {
     place: Place,
     /// The name under way, of a tag or an attribute.
-    name: ArrayVec<u8, 64>,
+    name: ArrayVec<u8, MAX_NAME_BYTES>,
     /// The tag under way: its name, once that is whole, and its whole attributes.
     tag: Tag,
     /// The name of the attribute under way, once that is whole.
@@ -66,7 +60,7 @@ pub struct Lexer {
     /// How many bytes of the value there are.
     count: u16,
     /// What they stand for.
-    value: ArrayVec<u8, 512>,
+    value: ArrayVec<u8, MAX_VALUE_BYTES>,
     /// The number that the digits of the reference under way spell.
     number: u32,
     alloc: Global,
@@ -77,9 +71,27 @@ impl Model for Lexer {
 
     ghost Value = { Held };
 
-    ghost view = { λ l. record { place = l.place; name = l.name.items; tag = l.tag; named = l.named; quote = l.quote; count = l.count; value = l.value.items; number = l.number } };
+    ghost view = { λ l. record {
+      place = l.place;
+      name = l.name.items;
+      tag = l.tag;
+      named = l.named;
+      quote = l.quote;
+      count = l.count;
+      value = l.value.items;
+      number = l.number;
+    } };
 
-    ghost invariant = { λ l. HasRoom (record { place = l.place; name = l.name.items; tag = l.tag; named = l.named; quote = l.quote; count = l.count; value = l.value.items; number = l.number }) };
+    ghost invariant = { λ l. HasRoom (record {
+      place = l.place;
+      name = l.name.items;
+      tag = l.tag;
+      named = l.named;
+      quote = l.quote;
+      count = l.count;
+      value = l.value.items;
+      number = l.number;
+    }) };
 }
 
 impl Lexer {
@@ -145,8 +157,8 @@ impl Lexer {
         }
     }
 
-    /// Reads in one go the bytes at the front that go on with the name, the value, the comment or the
-    /// instruction under way. Gives the bytes behind them.
+    /// Reads in one go the bytes at the front that go on with the name, the value, the comment or
+    /// the instruction under way. Gives the bytes behind them.
     pub fn read_span<'a>(&mut self, bytes: &'a [u8]) -> &'a [u8]
         ensures { ReadsWithin (lex_of self.old) bytes.now (lex_of self.new) result.now }
     {
@@ -173,7 +185,8 @@ impl Lexer {
         bytes
     }
 
-    /// One more byte of the name under way, where the byte goes on with it and fits. Tells whether it does.
+    /// One more byte of the name under way, where the byte goes on with it and fits. Tells whether
+    /// it does.
     fn takes_into_name(&mut self, byte: u8) -> bool
         requires { IsInName self.old.place }
         ensures { Takes byte self.old self.new result }
@@ -199,12 +212,13 @@ impl Lexer {
         bytes
     }
 
-    /// One more byte of the value under way, where the byte stands for itself and fits. Tells whether it does.
+    /// One more byte of the value under way, where the byte stands for itself and fits. Tells
+    /// whether it does.
     fn takes_into_value(&mut self, byte: u8) -> bool
         requires { self.old.place ≡ place.Value }
         ensures { Takes byte self.old self.new result }
     {
-        if byte == self.quote || is_turned(byte) || usize::from(self.count) >= MAX_VALUE {
+        if byte == self.quote || is_turned(byte) || usize::from(self.count) >= MAX_VALUE_BYTES {
             return false;
         }
         self.count += 1;
@@ -432,7 +446,8 @@ impl Lexer {
 
     /// Behind the name of an attribute.
     fn name_on(&mut self, byte: u8) -> Result<Option<Item>, TokenError>
-        ensures { Goes (judgement_of (machine.next_behind_attribute self.old.tag self.old.named byte)) self.new result }
+        ensures { Goes (judgement_of (machine.next_behind_name self.old.tag self.old.named byte))
+            self.new result }
     {
         if is_blank(byte) {
             self.place = Place::AttributeGap;
@@ -470,7 +485,7 @@ impl Lexer {
         }
         match byte {
             b'<' => Err(TokenError::Bad),
-            _ if usize::from(self.count) >= MAX_VALUE => Err(TokenError::Long),
+            _ if usize::from(self.count) >= MAX_VALUE_BYTES => Err(TokenError::Long),
             b'&' => {
                 self.count += 1;
                 self.place = Place::Refer(Reference::Ampersand);
@@ -525,10 +540,11 @@ impl Lexer {
 
     /// One more byte of the reference, whose digits spell the number.
     fn refer_to(&mut self, reference: Reference, number: u32) -> Result<Option<Item>, TokenError>
-        requires { HasReferenceRoom reference (record self.old { count = self.old.count + 1; number = number }) }
+        requires { HasReferenceRoom reference
+            (record self.old { count = self.old.count + 1; number = number }) }
         ensures { Refers reference number self.old self.new result }
     {
-        if usize::from(self.count) >= MAX_VALUE {
+        if usize::from(self.count) >= MAX_VALUE_BYTES {
             return Err(TokenError::Long);
         }
         self.count += 1;
@@ -596,7 +612,7 @@ impl Lexer {
         ensures { Goes (judgement (lex_of self.old) byte) self.new result }
     {
         match decimal_digit(byte) {
-            Some(digit) if digits < MAX_DIGITS => {
+            Some(digit) if digits < MAX_REFERENCE_DIGITS => {
                 let number = with_digit(10, self.number, digits, digit);
                 self.refer_to(Reference::Decimal(digits + 1), number)
             }
@@ -611,7 +627,7 @@ impl Lexer {
         ensures { Goes (judgement (lex_of self.old) byte) self.new result }
     {
         match hexadecimal_digit(byte) {
-            Some(digit) if digits < MAX_DIGITS => {
+            Some(digit) if digits < MAX_REFERENCE_DIGITS => {
                 let number = with_digit(16, self.number, digits, digit);
                 self.refer_to(Reference::Hexadecimal(digits + 1), number)
             }
@@ -636,7 +652,7 @@ impl Lexer {
         requires { length self.old.value + 3 ≤ self.old.count }
         ensures { EndsReference character self.old self.new result }
     {
-        if usize::from(self.count) >= MAX_VALUE {
+        if usize::from(self.count) >= MAX_VALUE_BYTES {
             return Err(TokenError::Long);
         }
         let mut buffer = [0; 4];
@@ -677,7 +693,7 @@ impl Lexer {
 
     /// Behind the name of an end tag.
     fn end_on(&mut self, byte: u8) -> Result<Option<Item>, TokenError>
-        ensures { Goes (judgement_of (machine.next_behind_end_name self.old.name byte)) self.new result }
+        ensures { Goes (judgement_of (machine.next_behind_end self.old.name byte)) self.new result }
     {
         if is_blank(byte) {
             self.place = Place::EndGap;

@@ -1,12 +1,14 @@
 ghost use Rattle.std.specs.Prelude.{◌≡◌};
 
+use crate::limits::MAX_NAME_BYTES;
 use arrayvec::ArrayVec;
 use std::marker::Model;
 
-/// A name of at most 64 bytes, without memory of its own; contracts see it as the list of its bytes.
+/// A name of at most [`MAX_NAME_BYTES`] bytes, without memory of its own; contracts see it as the
+/// list of its bytes.
 #[derive(Debug, Drop)]
 pub struct Name {
-    bytes: ArrayVec<u8, 64>,
+    bytes: ArrayVec<u8, MAX_NAME_BYTES>,
 }
 
 impl Model for Name {
@@ -18,7 +20,7 @@ impl Model for Name {
 }
 
 impl Name {
-    pub fn new(bytes: ArrayVec<u8, 64>) -> Name
+    pub fn new(bytes: ArrayVec<u8, MAX_NAME_BYTES>) -> Name
         ensures { result ≡ bytes.items }
     {
         Name { bytes }

@@ -1,4 +1,6 @@
 ghost use Rattle.std.specs.Prelude.{◌≡◌, ◌≤◌, ◌==◌, length, count_by};
+ghost use Rattle.psa_text.specs.declared.limits.TheConstants.{MAX_FILE_BYTES};
+ghost use Rattle.psa_text.specs.NamedBytes.{line_feed};
 ghost use Rattle.psa_text.specs.TextBytes.{is_blank};
 ghost use Rattle.psa_text.specs.scanner.Spans.{IsBehind, is_other};
 
@@ -30,8 +32,8 @@ pub fn behind_blanks(mut bytes: &[u8]) -> &[u8]
 
 /// The number of line ends among the bytes.
 pub fn line_ends(bytes: &[u8]) -> u32
-    requires { length bytes.now ≤ 67108864 }
-    ensures { result ≡ count_by (λ b. b == 10) bytes.now }
+    requires { length bytes.now ≤ MAX_FILE_BYTES }
+    ensures { result ≡ count_by (λ b. b == line_feed) bytes.now }
 {
     let mut count = 0;
     for byte in bytes {
