@@ -156,7 +156,7 @@ expression-held terms long mission model (Some e) a is =
 pub event-held : (terms : ℕ) → last_term ≤ terms → (mission : Scaled) (model : Model) (event : ExpandedEvent) (a : Ends) → event_interval mission model event ≡ Ok a → Holds a (exact_quantity terms mission model event)
 event-held terms long mission model event a is = expression-held terms long mission model (expression_of model event) a is
 
-and-event-parts : (there : Option (Place × List ℕ)) (one : Result Ends FaultKind) (rest : Result (List Ends) ModelFault) (es : List Ends) → and_event there one rest ≡ Ok es → (P : List Ends → Type 0) → ((a : Ends) (more : List Ends) → one ≡ Ok a → rest ≡ Ok more → P (a ∷ more)) → P es
+pub and-event-parts : (there : Option (Place × List ℕ)) (one : Result Ends FaultKind) (rest : Result (List Ends) ModelFault) (es : List Ends) → and_event there one rest ≡ Ok es → (P : List Ends → Type 0) → ((a : Ends) (more : List Ends) → one ≡ Ok a → rest ≡ Ok more → P (a ∷ more)) → P es
 and-event-parts there (Err kind) rest es is P each = absurd (cc)
 and-event-parts there (Ok a) (Err found) es is P each = absurd (cc)
 and-event-parts there (Ok a) (Ok more) es is P each = let these : a ∷ more ≡ es = cc in subst P these (each a more refl refl)

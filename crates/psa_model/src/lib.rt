@@ -2,7 +2,9 @@
 //! the text of a report, as definitions in specs/.
 #![tactic(auto)]
 
+mod bracket_laws;
 mod draft;
+mod event_laws;
 mod examples;
 mod expanded;
 mod expression;
@@ -13,6 +15,7 @@ mod laws;
 mod limits;
 mod model;
 mod model_laws;
+mod part_laws;
 mod path_laws;
 mod product;
 mod settings;
@@ -20,11 +23,13 @@ mod targets;
 mod value_laws;
 mod walks;
 
+pub use bracket_laws::bounds_hold_exact_values;
 pub use draft::{
     DefinitionKind, Draft, DraftBody, DraftBranch, DraftBranchEnd, DraftDefinition,
     DraftExpression, DraftFactor, DraftForkPath, DraftFormula, DraftGroup, DraftInstruction,
     DraftReference, DraftTest, EventKind,
 };
+pub use event_laws::basic_events_stand_for_themselves;
 pub use examples::{
     condition_in_a_rule, event_tree_with_a_link, faults_of_values, gates_stand_in_fault_trees,
     group_of_three_members, lines_of_faults, small_values, third_times_three,
@@ -49,6 +54,7 @@ pub use model::{
     Initiating, MAX_DEPTH, Model, NamedBranch, Parameter, RuleDefinition, Sequence, Valued,
 };
 pub use model_laws::{group_is_a_model, more_levels_change_no_walk};
+pub use part_laws::targets_are_parts_of_themselves;
 pub use path_laws::{
     more_levels_change_no_path, paths_are_short, top_events_alone, walks_without_a_fault_end,
 };
