@@ -111,17 +111,19 @@ cut_set_decided f limit set = elim (cases_Bool (is_ascending set && f (occurs se
     least : (is_ascending set && f (occurs set) && nat_le (length set) limit) ≡ true → ((part : List ℕ) → is_part part set ≡ true → (nat_lt (length part) (length set) && f (occurs part)) ≡ true → ⊥) → IsMinimalCutSet f set × (length set ≤ limit)
     least passes none =
         let p = and_parts (is_ascending set && f (occurs set)) (nat_le (length set) limit) passes in
-        let q = and_parts (is_ascending set) (f (occurs set)) p.0 in
-        (record {
-          ascending = q.0;
-          minimal = record {
-            cuts = q.1;
-            least = λ part h also. elim (part-length part set h) [
-              | inl shorter ↦ absurd (none part h (and_from (nat_lt (length part) (length set)) (f (occurs part)) (lt-ltb (length part) (length set) shorter) also))
-              | inr same ↦ same
-            ];
-          };
-        }, leb-true (length set) limit p.1)
+        let q = and_parts (is_ascending set) (f (occurs set)) p.0 in (
+          record {
+            ascending = q.0;
+            minimal = record {
+              cuts = q.1;
+              least = λ part h also. elim (part-length part set h) [
+                | inl shorter ↦ absurd (none part h (and_from (nat_lt (length part) (length set)) (f (occurs part)) (lt-ltb (length part) (length set) shorter) also))
+                | inr same ↦ same
+              ];
+            };
+          },
+          leb-true (length set) limit p.1,
+        )
 
 pub cut_decided : (f : (ℕ → Bool) → Bool) (limit : ℕ) (product : List ℕ) → IsCutProduct f limit product ⊎ (IsCutProduct f limit product → ⊥)
 cut_decided f limit product = elim (same_list product (positive_product (map (λ literal. rank_of literal) product))) [

@@ -27,25 +27,25 @@ inserted one [] h = record {
 }
 inserted one (x ∷ xs) h = elim (before-total one x) [
   | inl same ↦ record {
-      all = x ∷ xs;
-      ordered = h;
-      has_one = inl (sym same);
-      has_each = λ z m. m;
-      only = λ z m. inr m;
-    }
+    all = x ∷ xs;
+    ordered = h;
+    has_one = inl (sym same);
+    has_each = λ z m. m;
+    only = λ z m. inr m;
+  }
   | inr apart ↦ elim apart [
     | inl before ↦ record {
-        all = one ∷ x ∷ xs;
-        ordered = and_from (is_before_all one (x ∷ xs)) (is_in_order (x ∷ xs))
-            (before_all-from one (x ∷ xs) (λ z m. elim m [
-              | inl e ↦ subst (λ o. is_before one o ≡ true) e before
-              | inr r ↦ before-trans one x z before (before_all-each x xs (parts h).0 z r)
-            ]))
-            h;
-        has_one = inl refl;
-        has_each = λ z m. inr m;
-        only = λ z m. m;
-      }
+      all = one ∷ x ∷ xs;
+      ordered = and_from (is_before_all one (x ∷ xs)) (is_in_order (x ∷ xs))
+          (before_all-from one (x ∷ xs) (λ z m. elim m [
+            | inl e ↦ subst (λ o. is_before one o ≡ true) e before
+            | inr r ↦ before-trans one x z before (before_all-each x xs (parts h).0 z r)
+          ]))
+          h;
+      has_one = inl refl;
+      has_each = λ z m. inr m;
+      only = λ z m. m;
+    }
     | inr after ↦ behind (inserted one xs (parts h).1) after
   ]
 ]
@@ -163,13 +163,15 @@ pub record IsBelow (bound : ℕ) (xs : List ℕ) : Type 0 where
 
 pub listing-exists : (IsOne : List ℕ → Type 0) (bound : ℕ) → ((z : List ℕ) → IsOne z → IsBelow bound z) → ((z : List ℕ) → IsOne z ⊎ (IsOne z → ⊥)) → (products : List (List ℕ)) × IsListing IsOne products
 listing-exists IsOne bound bounded decide =
-    let all = listed IsOne decide (parts_of (numbers_from 0 bound)) in
-    (all.products, record {
-      ordered = all.ordered;
-      sound = all.sound;
-      whole = λ z is. all.whole z
-          (part-listed (numbers_from 0 bound) z
-          (part-from_has z (numbers_from 0 bound) (bounded z is).ascending (ascending-numbers 0 bound)
-          (λ n m. let l : n < bound = (bounded z is).below n m in has-numbers 0 bound n (omega arith) (omega (arith, l)))))
-          is;
-    })
+    let all = listed IsOne decide (parts_of (numbers_from 0 bound)) in (
+      all.products,
+      record {
+        ordered = all.ordered;
+        sound = all.sound;
+        whole = λ z is. all.whole z
+            (part-listed (numbers_from 0 bound) z
+            (part-from_has z (numbers_from 0 bound) (bounded z is).ascending (ascending-numbers 0 bound)
+            (λ n m. let l : n < bound = (bounded z is).below n m in has-numbers 0 bound n (omega arith) (omega (arith, l)))))
+            is;
+      },
+    )

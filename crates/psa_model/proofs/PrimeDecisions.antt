@@ -113,7 +113,7 @@ implicant_decided f width looks product =
 
     holds : (s : ℕ → Bool) → holds_at s product ≡ true → holds_at (occurs (chosen s)) product ≡ true
     holds s h = holds-from (occurs (chosen s)) product (λ l m.
-      literal-alike (occurs (chosen s)) s l (chosen-same s bound (rank_of l) (above-rank product width l m)) ∙ holds-each s product h l m)
+        literal-alike (occurs (chosen s)) s l (chosen-same s bound (rank_of l) (above-rank product width l m)) ∙ holds-each s product h l m)
 
 -- a decision as a test
 abbrev tells : {A : Type 0} → A ⊎ (A → ⊥) → Bool

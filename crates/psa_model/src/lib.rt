@@ -11,7 +11,7 @@ mod expression;
 mod fault;
 mod formula;
 mod ids;
-mod laws;
+pub mod laws;
 mod limits;
 mod model;
 mod model_laws;
@@ -44,10 +44,6 @@ pub use ids::{
 };
 pub use limits::{
     MAX_INSTRUCTIONS, MAX_MEMBERS, MAX_NESTING, MAX_PATHS, MAX_SIZE, MAX_VALUE_LEVELS, MIN_MEMBERS,
-};
-pub use laws::{
-    each_report_is_one_text, each_target_has_a_listing, gate_is_its_formula,
-    more_levels_change_nothing, products_hold_ranks, ranks_decide_truth,
 };
 pub use model::{
     BasicEvent, EventTree, Factor, FaultTree, Functional, Gate, Group, GroupModel, House,
