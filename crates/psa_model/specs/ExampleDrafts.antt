@@ -31,8 +31,13 @@ refer file line number name = record { name = name; place = record { file = file
 -- a definition by its kind, name, file, line, number, container and body
 abbrev pub define : DefinitionKind → Text → ℕ → ℕ → ℕ → List Text → DraftBody → DraftDefinition
 define its name file line number container says = record {
-  kind = its; name = name; place = record { file = file; line = line }; tag = number;
-  container = container; private = false; body = says;
+  kind = its;
+  name = name;
+  place = record { file = file; line = line };
+  tag = number;
+  container = container;
+  private = false;
+  body = says;
 }
 
 abbrev pub private_one : DraftDefinition → DraftDefinition
