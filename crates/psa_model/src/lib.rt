@@ -2,10 +2,10 @@
 //! the text of a report, as definitions in specs/.
 #![tactic(auto)]
 
-mod bracket_laws;
+pub mod bracket_laws;
 mod draft;
-mod event_laws;
-mod examples;
+pub mod event_laws;
+pub mod examples;
 mod expanded;
 mod expression;
 mod fault;
@@ -14,113 +14,36 @@ mod ids;
 pub mod laws;
 mod limits;
 mod model;
-mod model_laws;
-mod part_laws;
-mod path_laws;
+pub mod model_laws;
+pub mod part_laws;
+pub mod path_laws;
 mod product;
 mod settings;
 mod targets;
-mod value_laws;
+pub mod value_laws;
 mod walks;
 
-pub use bracket_laws::bounds_hold_exact_values;
-pub use draft::DefinitionKind;
-pub use draft::Draft;
-pub use draft::DraftBody;
-pub use draft::DraftBranch;
-pub use draft::DraftBranchEnd;
-pub use draft::DraftDefinition;
-pub use draft::DraftExpression;
-pub use draft::DraftFactor;
-pub use draft::DraftForkPath;
-pub use draft::DraftFormula;
-pub use draft::DraftGroup;
-pub use draft::DraftInstruction;
-pub use draft::DraftReference;
-pub use draft::DraftTest;
-pub use draft::EventKind;
-pub use event_laws::basic_events_stand_for_themselves;
-pub use examples::condition_in_a_rule;
-pub use examples::event_tree_with_a_link;
-pub use examples::faults_of_values;
-pub use examples::gates_stand_in_fault_trees;
-pub use examples::group_of_three_members;
-pub use examples::lines_of_faults;
-pub use examples::small_values;
-pub use examples::third_times_three;
-pub use expanded::Expanded;
-pub use expanded::ExpandedEvent;
-pub use expression::Expression;
-pub use expression::ExpressionOperator;
-pub use fault::FaultKind;
-pub use fault::ModelFault;
-pub use formula::Connective;
-pub use formula::Formula;
-pub use formula::MAX_COUNTED_ARGUMENTS;
-pub use ids::BranchId;
-pub use ids::EventId;
-pub use ids::EventNumber;
-pub use ids::FaultTreeId;
-pub use ids::FormulaId;
-pub use ids::FunctionalId;
-pub use ids::GateId;
-pub use ids::GroupId;
-pub use ids::HouseId;
-pub use ids::InitiatingId;
-pub use ids::ParameterId;
-pub use ids::Place;
-pub use ids::RuleId;
-pub use ids::SequenceId;
-pub use ids::TreeId;
-pub use limits::MAX_INSTRUCTIONS;
-pub use limits::MAX_MEMBERS;
-pub use limits::MAX_NESTING;
-pub use limits::MAX_PATHS;
-pub use limits::MAX_SIZE;
-pub use limits::MAX_VALUE_LEVELS;
-pub use limits::MIN_MEMBERS;
-pub use model::BasicEvent;
-pub use model::EventTree;
-pub use model::Factor;
-pub use model::FaultTree;
-pub use model::Functional;
-pub use model::Gate;
-pub use model::Group;
-pub use model::GroupModel;
-pub use model::House;
-pub use model::Initiating;
-pub use model::MAX_DEPTH;
-pub use model::Model;
-pub use model::NamedBranch;
-pub use model::Parameter;
-pub use model::RuleDefinition;
-pub use model::Sequence;
-pub use model::Valued;
-pub use model_laws::group_is_a_model;
-pub use model_laws::more_levels_change_no_walk;
-pub use part_laws::targets_are_parts_of_themselves;
-pub use path_laws::more_levels_change_no_path;
-pub use path_laws::paths_are_short;
-pub use path_laws::top_events_alone;
-pub use path_laws::walks_without_a_fault_end;
-pub use product::Literal;
-pub use product::MAX_COUNT;
-pub use product::MAX_ORDER;
-pub use product::Product;
-pub use settings::Algorithm;
-pub use settings::Input;
-pub use settings::Mode;
-pub use settings::Settings;
-pub use targets::Path;
-pub use targets::PathStep;
-pub use targets::Ranks;
-pub use targets::Target;
-pub use targets::Targets;
-pub use targets::Values;
-pub use value_laws::intervals_hold_exact_values;
-pub use value_laws::more_levels_change_no_value;
-pub use walks::Branch;
-pub use walks::BranchEnd;
-pub use walks::ForkPath;
-pub use walks::Instruction;
-pub use walks::Test;
+pub use draft::{
+    DefinitionKind, Draft, DraftBody, DraftBranch, DraftBranchEnd, DraftDefinition,
+    DraftExpression, DraftFactor, DraftForkPath, DraftFormula, DraftGroup, DraftInstruction,
+    DraftReference, DraftTest, EventKind,
+};
+pub use expanded::{Expanded, ExpandedEvent};
+pub use expression::{Expression, ExpressionOperator};
+pub use fault::{FaultKind, ModelFault};
+pub use formula::{Connective, Formula, MAX_COUNTED_ARGUMENTS};
+pub use ids::{
+    BranchId, EventId, EventNumber, FaultTreeId, FormulaId, FunctionalId, GateId, GroupId, HouseId,
+    InitiatingId, ParameterId, Place, RuleId, SequenceId, TreeId,
+};
+pub use limits::{
+    MAX_INSTRUCTIONS, MAX_MEMBERS, MAX_NESTING, MAX_PATHS, MAX_SIZE, MAX_VALUE_LEVELS, MIN_MEMBERS,
+};
+pub use model::{
+    BasicEvent, EventTree, Factor, FaultTree, Functional, Gate, Group, GroupModel, House,
+    Initiating, MAX_DEPTH, Model, NamedBranch, Parameter, RuleDefinition, Sequence, Valued,
+};
+pub use product::{Literal, MAX_COUNT, MAX_ORDER, Product};
+pub use settings::{Algorithm, Input, Mode, Settings};
+pub use targets::{Path, PathStep, Ranks, Target, Targets, Values};
+pub use walks::{Branch, BranchEnd, ForkPath, Instruction, Test};
