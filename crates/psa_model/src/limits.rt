@@ -19,3 +19,6 @@ pub const MAX_MEMBERS: usize = 8;
 
 /// The greatest number of definitions, group members and collected formulas of a model together.
 pub const MAX_SIZE: usize = 16_000_000;
+
+/// The greatest number of ranked events of a target.
+pub const MAX_EVENTS: usize = 2_048;

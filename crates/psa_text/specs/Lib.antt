@@ -9,4 +9,5 @@ pub mod TextBytes
 pub mod TextItems
 pub mod TextTree
 pub mod TextFaults
+pub mod TextOutcome
 pub mod scanner

@@ -1,0 +1,4 @@
+pub mod OutcomeLemmas
+pub mod SettingsLemmas
+pub mod OriginLemmas
+pub mod Analysed

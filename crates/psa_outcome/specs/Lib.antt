@@ -1,0 +1,10 @@
+pub mod SampleText
+pub mod Analyses
+pub mod AnalysisExample
+pub mod Brackets
+pub mod Inputs
+pub mod Causes
+pub mod Origins
+pub mod Runs
+pub mod RunOutcome
+pub mod Loading

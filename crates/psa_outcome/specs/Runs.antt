@@ -1,0 +1,103 @@
+-- What a run had and what it left. What is said of a file's bytes is said where the folder tells its files, and what
+-- is said of bytes written where the sink tells them. This project's own.
+use Rattle.std.specs.Prelude.{◌≡◌, ◌↔◌, ℕ, true, List, ◌++◌, Option, Some, All, length}
+use Rattle.std.specs.Io.KnownBytes.{Appends}
+use Rattle.psa_nodes.specs.declared.node.Node.{Node}
+use Rattle.psa_nodes.specs.declared.node.Kind.TheVariants as node
+use Rattle.psa_nodes.specs.Readings.{reading, node_at, stands}
+use Rattle.psa_nodes.specs.Table.{Table}
+use Rattle.psa_model.specs.declared.settings.Algorithm.TheVariants.{Zbdd}
+use Rattle.psa_model.specs.declared.settings.Settings.{Settings}
+use Rattle.psa_model.specs.declared.targets.Target.{Target}
+use Rattle.psa_model.specs.PathTargets.{targets_of}
+use Rattle.psa_ports.specs.Counts.{Rose}
+use Rattle.psa_ports.specs.Sink.{AppendsPrefix}
+use Rattle.psa_outcome.specs.Brackets.{IsBracketed}
+use Rattle.psa_outcome.specs.Causes.{told_of}
+use Rattle.psa_outcome.specs.Inputs.{Told}
+use Rattle.psa_outcome.specs.Origins.{AllFrom}
+use Rattle.psa_model.specs.Report.{Analysis, IsReport, IsProductOf}
+
+pub record Run : Type 0 where
+  -- the files that are told, what is left of the one that was opened last, and by how many the opens rose
+  pub told : Option Told
+  pub rest : Option (List ℕ)
+  pub opened : ℕ
+  -- the counts of faults of the folder and of out, before and after
+  pub folder_faults : ℕ × ℕ
+  pub out_faults : ℕ × ℕ
+  -- the bytes of out, before and after, and the node table after
+  pub before : Option (List ℕ)
+  pub after : Option (List ℕ)
+  pub table : Table
+
+-- a run by these settings over a folder that tells these files
+abbrev pub run_of : Settings → Option Told → Option (List ℕ) → ℕ → ℕ × ℕ → ℕ × ℕ → Option (List ℕ) → Option (List ℕ) → Table → Run
+run_of settings told rest opened folder_faults out_faults before after table = record {
+  told = told_of settings.input told;
+  rest = rest;
+  opened = opened;
+  folder_faults = folder_faults;
+  out_faults = out_faults;
+  before = before;
+  after = after;
+  table = table;
+}
+
+abbrev pub ReadRose : Run → Type 0
+ReadRose run = Rose run.folder_faults.0 run.folder_faults.1
+
+abbrev pub WriteRose : Run → Type 0
+WriteRose run = Rose run.out_faults.0 run.out_faults.1
+
+-- neither count of faults rose
+abbrev pub NoFaultRose : Run → Type 0
+NoFaultRose run = (ReadRose run → ⊥) × (WriteRose run → ⊥)
+
+-- ---- what out grew by
+
+-- the targets of the analysed model
+abbrev pub all_targets : Analysis → List Target
+all_targets analysis = targets_of analysis.expanded.model
+
+-- out grew by the report, whose intervals hold the exact quantities
+pub record Reported (run : Run) (analysis : Analysis) : Type 0 where
+  pub text : List ℕ
+  pub is_report : IsReport analysis (all_targets analysis) text
+  pub bracketed : IsBracketed analysis
+  pub appended : Appends run.before run.after text
+
+-- out grew by a prefix of the head and the sections of some first targets
+pub record ReportedPart (run : Run) (analysis : Analysis) : Type 0 where
+  pub shown : List Target
+  pub more : List Target
+  pub are_targets : all_targets analysis ≡ shown ++ more
+  pub text : List ℕ
+  pub is_report : IsReport analysis shown text
+  pub appended : AppendsPrefix run.before run.after text
+
+-- out grew by the head and the whole sections of so many first targets
+pub record ReportedFirst (run : Run) (analysis : Analysis) (count : ℕ) : Type 0 where
+  pub shown : List Target
+  pub more : List Target
+  pub are_targets : all_targets analysis ≡ shown ++ more
+  pub number : length shown ≡ count
+  pub text : List ℕ
+  pub is_report : IsReport analysis shown text
+  pub appended : Appends run.before run.after text
+
+-- ---- the run's own table
+
+-- some node or terminal reads as exactly the products of the target
+abbrev pub HasProducts : Analysis → Table → Target → Type 0
+HasProducts analysis table target =
+    (id : ℕ) × (stands node.Zbdd 0 table.nodes id ≡ true)
+    × ((product : List ℕ) → ((reading table.nodes id).as_family product ≡ true) ↔ IsProductOf analysis target product)
+
+-- Each node has its origin in some target, and the products of each target stand in the table; by `--zbdd` there is no
+-- decision diagram.
+pub record IsOwnTable (analysis : Analysis) (table : Table) : Type 0 where
+  pub from : AllFrom analysis (all_targets analysis) table
+  pub products : All (HasProducts analysis table) (all_targets analysis)
+  pub families :
+      analysis.settings.algorithm ≡ Zbdd → (id : ℕ) (n : Node) → node_at table.nodes id ≡ Some n → n.kind ≡ node.Zbdd

@@ -1,0 +1,38 @@
+//! What the definitions say of small inputs. The functions do nothing: their contracts are the
+//! examples.
+ghost use Rattle.std.specs.Prelude.{◌≡◌, [], ◌∷◌, true, false, None, Ok, Err, codes};
+ghost use Rattle.psa_model.specs.declared.fault.FaultKind.TheVariants.{UnknownElement};
+ghost use Rattle.psa_model.specs.declared.settings.Settings.{Settings};
+ghost use Rattle.psa_model.specs.Expansion.{expanded_of};
+ghost use Rattle.psa_model.specs.FaultTexts.{fault_line};
+ghost use Rattle.psa_reader.specs.ExampleTrees.{stray_if};
+ghost use Rattle.psa_outcome.specs.Analyses.{analysis_of};
+ghost use Rattle.psa_outcome.specs.AnalysisExample.{no_value_fault, no_value_model, no_value_tree};
+ghost use Rattle.psa_model.specs.Quantities.{has_quantities};
+ghost use Rattle.psa_outcome.specs.SampleText.{sample_text, two_trains};
+
+/// An `if` that stands in no event tree is an unknown element, whatever is asked for.
+pub fn a_stray_if_is_the_first_fault()
+    ensures { (settings : Settings) → analysis_of settings (stray_if ∷ [])
+        ≡ Err (record { kind = UnknownElement; file = 0; line = 1; name = codes "if" }) }
+{}
+
+/// An event without an expression is a fault exactly where quantities are asked for; the line tells
+/// the file, the line and the event.
+pub fn an_event_without_value_is_a_fault_of_quantities()
+    ensures asked { (settings : Settings) → has_quantities settings ≡ true
+        → analysis_of settings (no_value_tree ∷ []) ≡ Err no_value_fault }
+    ensures not_asked { (settings : Settings) → has_quantities settings ≡ false
+        → analysis_of settings (no_value_tree ∷ [])
+        ≡ Ok (record {
+          settings = settings;
+          expanded = expanded_of settings.ccf no_value_model;
+          values = None;
+        }) }
+    ensures line { fault_line (codes "m.xml") no_value_fault ≡ codes "scram: m.xml:1: no value a\n" }
+{}
+
+/// The text of the sample of two trains.
+pub fn the_sample_of_two()
+    ensures { sample_text 2 ≡ two_trains }
+{}
