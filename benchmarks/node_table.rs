@@ -60,6 +60,7 @@ pub enum Operation {
     Product,
     Without,
     MinimalOfBdd,
+    Primes,
 }
 
 #[derive(Clone, Copy, PartialEq, Eq, Hash)]

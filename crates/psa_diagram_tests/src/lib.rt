@@ -1,4 +1,5 @@
-//! Tests of the public calls on diagrams: the node table, connectives, families and cut sets.
+//! Tests of the public calls on diagrams: the node table, connectives, families, cut sets and prime
+//! implicants.
 #![tactic(auto)]
 
 #[cfg(test)]
@@ -11,3 +12,5 @@ mod limits;
 mod making;
 #[cfg(test)]
 mod nodes;
+#[cfg(test)]
+mod primes;

@@ -4,11 +4,27 @@ ghost use Rattle.psa_nodes.specs.Nodes.{IsBounded};
 
 use psa_bdd::{and, or};
 use psa_nodes::{
-    Kind, MAX_LITERAL_NUMBERS, MAX_RANKS, NodeError, NodeId, NodeTable, Steps, TERMINALS,
+    Kind, MAX_LITERAL_NUMBERS, MAX_RANKS, Node, NodeError, NodeId, NodeTable, Steps, TERMINALS,
 };
+use psa_prime::primes_of_bdd;
 use psa_zbdd::{minimal_of_bdd, union, without};
 use std::process::Abort;
 use std::sync::ledger::Ledger;
+
+/// The node of the kind at an id, None for a terminal. Stops where neither is there.
+pub fn node_of<L: Ledger>(
+    rt: &impl Abort,
+    table: &NodeTable,
+    kind: Kind,
+    id: NodeId,
+    steps: &mut Steps<L>,
+) -> Option<Node> {
+    expect_node(rt, table, kind, 0, id, steps);
+    if id.is_terminal() {
+        return None;
+    }
+    Some(table.node(id, steps))
+}
 
 /// Stops unless an id is a terminal or a node of the kind with a variable of at least `from`.
 pub fn expect_node<L: Ledger>(
@@ -144,4 +160,19 @@ pub fn cut_sets<L: Ledger>(
 {
     expect_node(rt, table, Kind::Bdd, 0, root, steps);
     minimal_of_bdd(table, root, limit, steps)
+}
+
+/// The prime implicants of a diagram within a limit.
+pub fn prime_implicants<L: Ledger>(
+    rt: &impl Abort,
+    table: &mut NodeTable,
+    root: NodeId,
+    limit: u8,
+    steps: &mut Steps<L>,
+) -> Result<NodeId, NodeError>
+    requires { IsBounded table.old.nodes }
+    ensures { IsBounded table.new.nodes }
+{
+    expect_node(rt, table, Kind::Bdd, 0, root, steps);
+    primes_of_bdd(table, root, limit, steps)
 }

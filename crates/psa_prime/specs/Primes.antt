@@ -1,0 +1,56 @@
+-- Prime implicants of a decision diagram (Coudert and Madre): from where the nodes of their families come, what
+-- they are remembered by, and what a side of a decision gives.
+use Rattle.std.specs.Prelude.{◌≡◌, ◌≢◌, ◌↔◌, ℕ, Bool, true, List, []}
+use Rattle.std.specs.List.{list_all}
+use Rattle.psa_logic.specs.Products.{IsImplicant, IsPrimeProduct}
+use Rattle.psa_nodes.specs.declared.node.Kind.{Kind}
+use Rattle.psa_nodes.specs.declared.node.Kind.TheVariants.{Bdd, Zbdd}
+use Rattle.psa_nodes.specs.declared.node.Node.{Node}
+use Rattle.psa_nodes.specs.declared.node.NodeId.{NodeId}
+use Rattle.psa_nodes.specs.declared.node.MemoKey.{MemoKey}
+use Rattle.psa_nodes.specs.declared.node.TheConstants.MemoKey.{NO_RIGHT}
+use Rattle.psa_nodes.specs.declared.node.Operation.TheVariants.{Primes}
+use Rattle.psa_nodes.specs.Readings.{Reading, truth, has, stands}
+use Rattle.psa_nodes.specs.Cofactors.{cofactor}
+use Rattle.psa_nodes.specs.Tails.{AreTailsOf}
+
+-- the conjunction of cofactors of f by these assignments, each of the ranks below v
+abbrev pub all_hold : ((ℕ → Bool) → Bool) → ℕ → List (ℕ → Bool) → (ℕ → Bool) → Bool
+all_hold f v assignments s = list_all (λ assignment. cofactor f assignment v s) assignments
+
+-- a conjunction of one or more such cofactors
+pub record IsCofactorConjunction (f : (ℕ → Bool) → Bool) (v : ℕ) (g : (ℕ → Bool) → Bool)
+    : Type 0 where
+  pub assignments : List (ℕ → Bool)
+  pub some : assignments ≢ []
+  pub same : (s : ℕ → Bool) → g s ≡ all_hold f v assignments s
+
+-- a prime implicant of at most `limit` literals of some conjunction of cofactors
+pub record IsPrimeOfCofactors (f : (ℕ → Bool) → Bool) (limit : ℕ) (product : List ℕ) : Type 0 where
+  pub below : ℕ
+  pub truth : (ℕ → Bool) → Bool
+  pub cofactors : IsCofactorConjunction f below truth
+  pub prime : IsPrimeProduct truth limit product
+
+-- Where a node comes from: a decision diagram reads as a conjunction of cofactors by assignments of the ranks
+-- below its variable; each member of a family is the tail, at its variable, of a prime implicant within the
+-- limit of such a conjunction.
+abbrev pub IsPrimeOrigin : ((ℕ → Bool) → Bool) → ℕ → Kind → ℕ → Reading → Type 0
+IsPrimeOrigin f limit Bdd var r = IsCofactorConjunction f var r.as_truth
+IsPrimeOrigin f limit Zbdd var r = AreTailsOf (IsPrimeOfCofactors f limit) Zbdd var r
+
+-- what the prime implicants of a diagram within a limit are remembered by
+abbrev pub prime_key : NodeId → ℕ → MemoKey
+prime_key root limit = record { operation = Primes; left = root; right = NO_RIGHT; limit = limit }
+
+-- A prime implicant of a side, of at most `limit` literals, that is no implicant of both sides.
+pub record IsSidePrime (side both : (ℕ → Bool) → Bool) (limit : ℕ) (product : List ℕ) : Type 0 where
+  pub prime : IsPrimeProduct side limit product
+  pub other : IsImplicant both product → ⊥
+
+-- the family of these
+pub record AreSidePrimes (ns : List Node) (side both limit family : ℕ) : Type 0 where
+  pub stands_at : stands Zbdd 0 ns family ≡ true
+  pub reads :
+      (set : List ℕ)
+      → (has ns family set ≡ true) ↔ IsSidePrime (truth ns side) (truth ns both) limit set

@@ -1,0 +1,10 @@
+//! Prime implicants of a decision diagram over the shared node table (Coudert and Madre), by recursion with
+//! remembered results.
+#![tactic(auto)]
+
+mod differences;
+mod making;
+mod primes;
+mod sides;
+
+pub use primes::primes_of_bdd;
