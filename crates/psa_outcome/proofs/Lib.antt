@@ -2,3 +2,4 @@ pub mod OutcomeLemmas
 pub mod SettingsLemmas
 pub mod OriginLemmas
 pub mod Analysed
+pub mod RowLemmas

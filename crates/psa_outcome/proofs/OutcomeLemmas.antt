@@ -39,13 +39,13 @@ fault-cases settings names told _ (of_text before name behind roots found files 
     inl (record { before = before; name = name; behind = behind; roots = roots; found = found; files = files; trees = trees; reads = reads; is = refl })
 fault-cases settings names told _ (of_trees roots found trees analysed) = inr (record { roots = roots; trees = trees; analysed = analysed })
 
-ok-err : {A B : Type 0} {x : A} {e : B} → ◌≡◌ {A = Result A B} (Ok x) (Err e) → ⊥
+pub ok-err : {A B : Type 0} {x : A} {e : B} → ◌≡◌ {A = Result A B} (Ok x) (Err e) → ⊥
 ok-err p = absurd (cc)
 
 ok-same : {A B : Type 0} {x y : A} → ◌≡◌ {A = Result A B} (Ok x) (Ok y) → x ≡ y
 ok-same p = cc
 
-err-same : {A B : Type 0} {x y : B} → ◌≡◌ {A = Result A B} (Err x) (Err y) → x ≡ y
+pub err-same : {A B : Type 0} {x y : B} → ◌≡◌ {A = Result A B} (Err x) (Err y) → x ≡ y
 err-same p = cc
 
 no-item : {A : Type 0} (xs : List A) (x : A) (ys : List A) → [] ≡ xs ++ x ∷ ys → ⊥

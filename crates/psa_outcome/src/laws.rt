@@ -13,7 +13,8 @@ ghost use Rattle.psa_outcome.specs.Analyses.{analysis_of};
 ghost use Rattle.psa_outcome.specs.Brackets.{IsBracketed};
 ghost use Rattle.psa_outcome.specs.Inputs.{Told, AllAreTold, IsAnalysis, IsOutcome};
 ghost use Rattle.psa_outcome.specs.Origins.{Origin};
-ghost use Rattle.psa_outcome.specs.Runs.{all_targets};
+ghost use Rattle.psa_outcome.specs.RunOutcome.{BadModelRow, DoneRow};
+ghost use Rattle.psa_outcome.specs.Runs.{Run, all_targets};
 ghost use Rattle.psa_model.specs.Quantities.{has_quantities};
 ghost use Rattle.psa_model.specs.Report.{Analysis, IsReport};
 ghost use Rattle.psa_text.specs.TextOutcome.{EachReads, ReadsOnce};
@@ -36,6 +37,16 @@ pub fn inputs_have_one_report()
         → IsAnalysis settings names told one → IsAnalysis settings names told other
         → IsReport one (all_targets one) text → IsReport other (all_targets other) more
         → text ≡ more }
+{}
+
+/// Where its files are told, a run whose model has a fault tells one line and is never done, as far as
+/// a text comes to no two things.
+pub fn fault_lines_are_determined()
+    ensures line { ReadsOnce → (settings : Settings) (run : Run) (files : Told) (line other : List ℕ)
+        → run.told ≡ Some files → BadModelRow settings run line → BadModelRow settings run other
+        → line ≡ other }
+    ensures apart { ReadsOnce → (settings : Settings) (run : Run) (files : Told) (line other : List ℕ)
+        → run.told ≡ Some files → DoneRow settings run line → BadModelRow settings run other → ⊥ }
 {}
 
 /// An analysis keeps its settings, has the events that they ask for, and intervals exactly where they

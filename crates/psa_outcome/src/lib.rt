@@ -12,8 +12,8 @@ pub use examples::{
     the_sample_of_two,
 };
 pub use laws::{
-    analyses_are_by_their_settings, inputs_have_one_outcome, inputs_have_one_report,
-    intervals_of_a_report_hold_exact_values, origins_pass_to_children,
+    analyses_are_by_their_settings, fault_lines_are_determined, inputs_have_one_outcome,
+    inputs_have_one_report, intervals_of_a_report_hold_exact_values, origins_pass_to_children,
 };
 pub use loaded::{LoadError, Loaded};
 pub use status::Status;
