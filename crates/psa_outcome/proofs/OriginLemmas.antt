@@ -12,7 +12,7 @@ use Rattle.psa_nodes.specs.Readings.{Reading, node_at, reading, truth, has, join
 use Rattle.psa_nodes.specs.Tails.{tail_from, IsTailOf}
 use Rattle.psa_nodes.proofs.CallerLemmas.{At, at, stands-at, stands-node, truth-agree, fixed, blind-stands, high-side, low-side, joined-own, joined-other, above-stands, above-head, own-tails}
 use Rattle.psa_model.specs.declared.targets.Target.{Target}
-use Rattle.psa_outcome.specs.Origins.{all_cofactors, IsConjunctionOfCofactors, IsSourceOf, Origin}
+use Rattle.psa_outcome.specs.Origins.{all_hold, IsCofactorConjunction, IsSourceOf, Origin}
 use Rattle.psa_model.specs.Report.{Analysis}
 use Rattle.psa_model.specs.Parts.{Truth}
 
@@ -43,7 +43,7 @@ module _ (f : Truth) (x v : ℕ) (b : Bool) (lt : x < v) (s : ℕ → Bool) wher
             ]
       ]
 
-  all-fixed-below : (assignments : List (ℕ → Bool)) → all_cofactors f x assignments (fixed (assigned no_rank v s) x b) ≡ all_cofactors f v (map (and-fixed x b) assignments) s
+  all-fixed-below : (assignments : List (ℕ → Bool)) → all_hold f x assignments (fixed (assigned no_rank v s) x b) ≡ all_hold f v (map (and-fixed x b) assignments) s
   all-fixed-below [] = refl
   all-fixed-below (assignment ∷ more) =
       let one : f (assigned assignment x (fixed (assigned no_rank v s) x b)) ≡ f (assigned (and-fixed x b assignment) v s) = ap f (λ i y. fixed-below assignment y i) in
@@ -55,7 +55,7 @@ map-some h [] some p = some refl
 map-some h (x ∷ xs) some p = absurd (cc)
 
 -- the side of a conjunction of cofactors, by one value of x, that decides from v on alone
-side-cofactors : (f g side : Truth) (x v : ℕ) (b : Bool) → x < v → ((s : ℕ → Bool) → side s ≡ g (fixed s x b)) → ((s t : ℕ → Bool) → ((y : ℕ) → v ≤ y → s y ≡ t y) → side s ≡ side t) → IsConjunctionOfCofactors f x g → IsConjunctionOfCofactors f v side
+side-cofactors : (f g side : Truth) (x v : ℕ) (b : Bool) → x < v → ((s : ℕ → Bool) → side s ≡ g (fixed s x b)) → ((s t : ℕ → Bool) → ((y : ℕ) → v ≤ y → s y ≡ t y) → side s ≡ side t) → IsCofactorConjunction f x g → IsCofactorConjunction f v side
 side-cofactors f g side x v b lt is blind c = record {
   assignments = map (and-fixed x b) c.assignments;
   some = map-some (and-fixed x b) c.assignments c.some;

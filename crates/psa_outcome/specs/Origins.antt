@@ -24,20 +24,20 @@ use Rattle.psa_model.specs.Parts.{Truth, IsPart}
 -- ---- cofactors
 
 -- the conjunction of the cofactors of f by these assignments, each of the ranks below v
-abbrev pub all_cofactors : Truth → ℕ → List (ℕ → Bool) → Truth
-all_cofactors f v assignments s = list_all (λ assignment. cofactor f assignment v s) assignments
+abbrev pub all_hold : Truth → ℕ → List (ℕ → Bool) → Truth
+all_hold f v assignments s = list_all (λ assignment. cofactor f assignment v s) assignments
 
 -- a conjunction of one or more cofactors, each of which fixes exactly the ranks below v
-pub record IsConjunctionOfCofactors (f : Truth) (v : ℕ) (g : Truth) : Type 0 where
+pub record IsCofactorConjunction (f : Truth) (v : ℕ) (g : Truth) : Type 0 where
   pub assignments : List (ℕ → Bool)
   pub some : assignments ≢ []
-  pub same : (s : ℕ → Bool) → g s ≡ all_cofactors f v assignments s
+  pub same : (s : ℕ → Bool) → g s ≡ all_hold f v assignments s
 
 -- a prime implicant of at most `limit` literals of some conjunction of cofactors
 pub record IsPrimeOfCofactors (f : Truth) (limit : ℕ) (product : List ℕ) : Type 0 where
   pub below : ℕ
   pub truth : Truth
-  pub cofactors : IsConjunctionOfCofactors f below truth
+  pub cofactors : IsCofactorConjunction f below truth
   pub prime : IsPrimeProduct truth limit product
 
 -- ---- products
@@ -70,7 +70,7 @@ IsSourceOf analysis target = IsSource analysis.settings.algorithm analysis.setti
 pub record IsCofactorOfPart (expanded : Expanded) (target : Target) (var : ℕ) (g : Truth) : Type 0 where
   pub part : Truth
   pub is_part : IsPart expanded target part
-  pub cofactors : IsConjunctionOfCofactors part var g
+  pub cofactors : IsCofactorConjunction part var g
 
 -- a node of a kind, with a variable and a reading, has its origin in a target
 abbrev pub Origin : Analysis → Target → Kind → ℕ → Reading → Type 0
