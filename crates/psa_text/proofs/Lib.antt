@@ -5,3 +5,5 @@ pub mod Depths
 pub mod Spelled
 pub mod Ascii
 pub mod FirstTexts
+pub mod OneReading
+pub mod TreeSizes

@@ -8,6 +8,7 @@ pub mod FirstText
 pub mod TextBytes
 pub mod TextItems
 pub mod TextTree
+pub mod TreeSize
 pub mod TextFaults
 pub mod TextOutcome
 pub mod scanner

@@ -4,6 +4,7 @@
 mod builder;
 mod bytes;
 mod document;
+pub mod laws;
 pub mod limits;
 mod reader;
 mod scanner;
