@@ -7,3 +7,4 @@ pub mod Ascii
 pub mod FirstTexts
 pub mod OneReading
 pub mod TreeSizes
+pub mod OneOutcome
