@@ -14,8 +14,8 @@ use Rattle.psa_number.specs.Fraction.{Fraction, Holds, plus, times, held_in_unit
 use Rattle.psa_number.specs.Operations.{unit_ends, unit_product_ends, unit_sum_ends, complement_ends, IsInUnit}
 use Rattle.psa_number.specs.Scaled.{Scaled}
 use Rattle.psa_number.specs.Units.{units}
-use Rattle.psa_number.proofs.Held.{unit_held, unit_sum_held, complement_held, unit_product_held}
-use Rattle.psa_number.proofs.Signed.{AreUnitEnds, held_in_order, products_in_unit, sums_in_unit}
+use Rattle.psa_number.proofs.BracketLemmas.{unit_held, unit_sum_held, complement_held, unit_product_held}
+use Rattle.psa_number.proofs.SignedLemmas.{AreUnitEnds, held_in_order, products_in_unit, sums_in_unit}
 use Rattle.psa_model.specs.declared.expanded.Expanded.{Expanded}
 use Rattle.psa_model.specs.declared.expanded.ExpandedEvent.{ExpandedEvent}
 use Rattle.psa_model.specs.declared.expression.Expression.{Expression}

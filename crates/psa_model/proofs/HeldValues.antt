@@ -13,8 +13,8 @@ use Rattle.psa_number.specs.Fraction.{Fraction, Holds, minus, plus, difference, 
 use Rattle.psa_number.specs.Operations.{limited, negative_ends, sum_ends, difference_ends, product_ends, quotient_ends, quotient_of, exponential_of, has_zero, unit_ends, decimal_ends}
 use Rattle.psa_number.specs.Scaled.{Scaled}
 use Rattle.psa_number.specs.Units.{units}
-use Rattle.psa_number.proofs.Held.{held_if_limited, held_if_exponential, sum_held, difference_held, product_held, quotient_held, exponential_held, negative_held, decimal_held, unit_held}
-use Rattle.psa_number.proofs.Signed.{le_then, parts_out}
+use Rattle.psa_number.proofs.BracketLemmas.{held_if_limited, held_if_exponential, sum_held, difference_held, product_held, quotient_held, exponential_held, negative_held, decimal_held, unit_held}
+use Rattle.psa_number.proofs.SignedLemmas.{le_then, parts_out}
 use Rattle.psa_model.specs.declared.expression.Expression.{Expression}
 use Rattle.psa_model.specs.declared.expression.Expression.TheOpen.{Expression-F}
 use Rattle.psa_model.specs.declared.expression.Expression.TheViews.{out-Expression}

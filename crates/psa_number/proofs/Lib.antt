@@ -1,5 +1,5 @@
-pub mod Digits
-pub mod Held
-pub mod Printed
-pub mod Signed
-pub mod Sums
+pub mod DigitLemmas
+pub mod BracketLemmas
+pub mod PrintedTextLemmas
+pub mod SignedLemmas
+pub mod TaylorSumLemmas

@@ -5,7 +5,7 @@ use Rattle.std.proofs.lemmas.Bool.{le-leb, lt-leb, ne_eqb}
 use Rattle.std.proofs.lemmas.Int.{ints}
 use Rattle.std.proofs.Math.Nat.{pow-le-pow_right, mul-le-mul_left, mul-le-mul_right}
 use Rattle.psa_number.specs.DecimalText.{is_within}
-use Rattle.psa_number.proofs.Digits.{IsReadSoFar}
+use Rattle.psa_number.proofs.DigitLemmas.{IsReadSoFar}
 
 -- 13 digits leave room
 pub digits_room : (value i : ℕ) (digits : List ℕ) → i < length digits → IsReadSoFar 0 value i digits → length digits ≤ 13 → (value + 1) * 10 ≤ 10 ^ 13

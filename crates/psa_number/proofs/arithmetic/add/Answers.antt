@@ -2,8 +2,8 @@ use Rattle.std.proofs.Common.{◌+ℤ◌}
 use Rattle.psa_number.specs.Ends.{Ends}
 use Rattle.psa_number.specs.Operations.{sum_ends}
 use Rattle.psa_number.specs.Fraction.{Fraction, Holds, plus}
-use Rattle.psa_number.proofs.Signed.{read, sum_read}
-use Rattle.psa_number.proofs.Held.{limited_same, held_if_limited, sum_held}
+use Rattle.psa_number.proofs.SignedLemmas.{read, sum_read}
+use Rattle.psa_number.proofs.BracketLemmas.{limited_same, held_if_limited, sum_held}
 use Rattle.psa_number.proofs.arithmetic.add.Goals as goal
 
 pub returns-clause-exact : goal.returns-clause-exact

@@ -2,8 +2,8 @@ use Rattle.std.proofs.Common.{false, ◌≡◌, ◌≤ℤ◌, rules, ◌∙◌}
 use Rattle.psa_number.specs.Ends.{Ends}
 use Rattle.psa_number.specs.Operations.{has_zero, quotient_ends}
 use Rattle.psa_number.specs.Fraction.{Fraction, Holds, quotient}
-use Rattle.psa_number.proofs.Signed.{read, read_back}
-use Rattle.psa_number.proofs.Held.{limited_same, held_if_limited, nonzero, quotient_ordered, quotient_held, not_refused}
+use Rattle.psa_number.proofs.SignedLemmas.{read, read_back}
+use Rattle.psa_number.proofs.BracketLemmas.{limited_same, held_if_limited, nonzero, quotient_ordered, quotient_held, not_refused}
 use Rattle.psa_number.proofs.arithmetic.div.Goals as goal
 
 pub limited-requires : goal.limited-requires

@@ -1,6 +1,6 @@
 use Rattle.std.proofs.Common.{◌∙◌}
 use Rattle.psa_number.specs.Operations.{quotient_above}
-use Rattle.psa_number.proofs.Signed.{read_back, two_read, greatest_read, greatest_four}
+use Rattle.psa_number.proofs.SignedLemmas.{read_back, two_read, greatest_read, greatest_four}
 use Rattle.psa_number.proofs.arithmetic.greatest_quotient.Goals as goal
 
 pub returns : goal.returns

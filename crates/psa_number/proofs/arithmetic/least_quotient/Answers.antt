@@ -1,6 +1,6 @@
 use Rattle.std.proofs.Common.{◌∙◌}
 use Rattle.psa_number.specs.Operations.{quotient_below}
-use Rattle.psa_number.proofs.Signed.{read_back, two_read, least_read, least_four}
+use Rattle.psa_number.proofs.SignedLemmas.{read_back, two_read, least_read, least_four}
 use Rattle.psa_number.proofs.arithmetic.least_quotient.Goals as goal
 
 pub returns : goal.returns

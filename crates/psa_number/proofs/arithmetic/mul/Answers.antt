@@ -3,8 +3,8 @@ use Rattle.psa_number.specs.Units.{least, greatest, floor_units, ceil_units}
 use Rattle.psa_number.specs.Ends.{Ends}
 use Rattle.psa_number.specs.Operations.{product_ends}
 use Rattle.psa_number.specs.Fraction.{Fraction, Holds, times}
-use Rattle.psa_number.proofs.Signed.{read_back, product_read, least_read, greatest_read, greatest_keeps, least_within, greatest_within, floor_ceil, le_then, least_four, greatest_four}
-use Rattle.psa_number.proofs.Held.{limited_same, held_if_limited, product_held}
+use Rattle.psa_number.proofs.SignedLemmas.{read_back, product_read, least_read, greatest_read, greatest_keeps, least_within, greatest_within, floor_ceil, le_then, least_four, greatest_four}
+use Rattle.psa_number.proofs.BracketLemmas.{limited_same, held_if_limited, product_held}
 use Rattle.psa_number.proofs.arithmetic.mul.Goals as goal
 
 least_at_most_greatest : (a b c d : ℤ) → least a b c d ≤ℤ greatest a b c d

@@ -2,7 +2,7 @@ use Rattle.std.proofs.Common.{ℤ, ◌≡◌, ◌^◌, ◌*ℤ◌, ◌≤◌, un
 use Rattle.std.proofs.lemmas.Int.{fits_signed_mul, unsigned_abs-mul, to_z-of_z}
 use Rattle.std.proofs.lemmas.Nat.{mul-le}
 use Rattle.std.specs.Int.{w128}
-use Rattle.psa_number.proofs.Signed.{read, read_end}
+use Rattle.psa_number.proofs.SignedLemmas.{read, read_end}
 use Rattle.psa_number.proofs.arithmetic.product.Goals as goal
 
 read_product : (x y : ℤ) → unsigned_abs x ≤ 10 ^ 18 → unsigned_abs y ≤ 10 ^ 18 → read (read x *ℤ read y) ≡ (x *ℤ y)

@@ -2,8 +2,8 @@ use Rattle.std.proofs.Common.{◌-ℤ◌}
 use Rattle.psa_number.specs.Ends.{Ends}
 use Rattle.psa_number.specs.Operations.{difference_ends}
 use Rattle.psa_number.specs.Fraction.{Fraction, Holds, difference}
-use Rattle.psa_number.proofs.Signed.{read, difference_read}
-use Rattle.psa_number.proofs.Held.{limited_same, held_if_limited, difference_held}
+use Rattle.psa_number.proofs.SignedLemmas.{read, difference_read}
+use Rattle.psa_number.proofs.BracketLemmas.{limited_same, held_if_limited, difference_held}
 use Rattle.psa_number.proofs.arithmetic.sub.Goals as goal
 
 pub returns-clause-exact : goal.returns-clause-exact

@@ -1,6 +1,6 @@
 use Rattle.std.proofs.Common.{ℕ, List, ◌≡◌, ◌+◌, ◌-◌, ◌/◌, ◌%◌, [], ◌∷◌, ◌++◌, length, length-append, ap, ◌∙◌, arith}
 use Rattle.psa_number.specs.DecimalText.{last_digits}
-use Rattle.psa_number.proofs.Printed.{last_none, last_step, length-last_digits}
+use Rattle.psa_number.proofs.PrintedTextLemmas.{last_none, last_step, length-last_digits}
 use Rattle.psa_number.proofs.printing.+push_last_digits.Goals as goal
 
 pub push_digit-requires : goal.push_digit-requires

@@ -1,6 +1,6 @@
 use Rattle.std.proofs.Common.{ℕ, List, ◌≡◌, ◌+◌, ◌/◌, ◌%◌, [], ◌∷◌, ◌++◌, length, length-append, ap, ◌∙◌, arith}
 use Rattle.std.specs.Fmt.{decimal}
-use Rattle.psa_number.proofs.Printed.{whole_digit, whole_step, front_short}
+use Rattle.psa_number.proofs.PrintedTextLemmas.{whole_digit, whole_step, front_short}
 use Rattle.psa_number.proofs.printing.+push_whole.Goals as goal
 use Rattle.psa_number.proofs.printing.+push_whole.Goals.{then-number-ge10, else-number-ge10}
 

@@ -4,7 +4,7 @@ use Rattle.std.specs.Fmt.{decimal}
 use Rattle.std.proofs.lemmas.Int.{to_z-of_z}
 use Rattle.psa_number.specs.Units.{units}
 use Rattle.psa_number.specs.DecimalText.{decimal_of, sign_of, last_digits}
-use Rattle.psa_number.proofs.Printed.{units_read_back, front_length, text_is}
+use Rattle.psa_number.proofs.PrintedTextLemmas.{units_read_back, front_length, text_is}
 use Rattle.psa_number.proofs.printing.print_units.Goals as goal
 
 pub push_str-requires-2 : goal.push_str-requires-2

@@ -1,5 +1,5 @@
 use Rattle.std.proofs.Common.{◌<◌, length, get_or, arith}
-use Rattle.psa_number.proofs.Digits.{read_none, read_next, read_room, digit_at, digit_of}
+use Rattle.psa_number.proofs.DigitLemmas.{read_none, read_next, read_room, digit_at, digit_of}
 use Rattle.psa_number.proofs.reading.append_digits.Goals as goal
 
 pub loop-digit-init : goal.loop-digit-init

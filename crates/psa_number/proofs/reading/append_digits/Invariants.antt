@@ -1,4 +1,4 @@
-use Rattle.psa_number.proofs.Digits.{IsReadSoFar}
+use Rattle.psa_number.proofs.DigitLemmas.{IsReadSoFar}
 use Rattle.psa_number.proofs.reading.append_digits.Given as goal
 
 abbrev pub invariant-loop-digit : goal.invariant-loop-digit

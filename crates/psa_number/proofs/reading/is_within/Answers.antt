@@ -1,6 +1,6 @@
 use Rattle.std.proofs.Common.{ℕ, ℤ, ◌≡◌, ◌≤◌, ◌-ℤ◌, pos, unsigned_abs, to_z, of_z, w16, arith}
 use Rattle.std.proofs.lemmas.Int.{ints}
-use Rattle.psa_number.proofs.Digits.{far_is, low_is, mid_is, power_small}
+use Rattle.psa_number.proofs.DigitLemmas.{far_is, low_is, mid_is, power_small}
 use Rattle.psa_number.proofs.reading.is_within.Goals as goal
 
 -- how far the exponent is below 6, as the code casts it

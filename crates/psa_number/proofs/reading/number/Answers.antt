@@ -1,7 +1,7 @@
 use Rattle.std.proofs.Common.{ℕ, ℤ, pos, negsuc, Bool, true, false, ◌≡◌, ◌||◌, ◌+◌, ◌≤◌, ◌-ℤ◌, int_lt, length, to_z, of_z, w16, refl, ap, ◌∙◌, arith}
 use Rattle.std.proofs.lemmas.Int.{ints, to_z-of_z}
 use Rattle.std.specs.Str.Parse.{digits_value_after}
-use Rattle.psa_number.proofs.Digits.{whole_room, fraction_room, many_digits, far_exponent, number_is}
+use Rattle.psa_number.proofs.DigitLemmas.{whole_room, fraction_room, many_digits, far_exponent, number_is}
 use Rattle.psa_number.proofs.reading.number.Goals as goal
 use Rattle.psa_number.proofs.reading.number.Goals.{then-whole-gt-MAX_DIGITS-via-then-whole-gt-MAX_DIGITS, then-whole-gt-MAX_DIGITS-via-else-whole-gt-MAX_DIGITS+then-fraction-whole, then-exponent-via-then-exponent, then-exponent-via-else-exponent+then-exponent-gt-MAX_EXPONENT}
 

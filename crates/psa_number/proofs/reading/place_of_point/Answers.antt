@@ -1,7 +1,7 @@
 use Rattle.std.proofs.Common.{ℕ, Option, unwrap_or, length, not, ap, ◌∙◌}
 use Rattle.std.proofs.lemmas.List.Sums.{prefix_len-le-length}
 use Rattle.psa_number.specs.DecimalText.{is_point}
-use Rattle.psa_number.proofs.Digits.{place_is}
+use Rattle.psa_number.proofs.DigitLemmas.{place_is}
 use Rattle.psa_number.proofs.reading.place_of_point.Goals as goal
 
 pub returns-clause-place : goal.returns-clause-place

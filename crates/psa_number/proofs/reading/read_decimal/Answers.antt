@@ -2,7 +2,7 @@ use Rattle.std.proofs.Common.{ℕ, List, true, ◌≡◌, ◌+◌, ◌<◌, leng
 use Rattle.std.proofs.lemmas.Int.{to_z-of_z}
 use Rattle.std.specs.List.{before_first, after_first}
 use Rattle.psa_number.specs.DecimalText.{are_digits, is_mark, is_point, number_of}
-use Rattle.psa_number.proofs.Digits.{reads_as}
+use Rattle.psa_number.proofs.DigitLemmas.{reads_as}
 use Rattle.psa_number.proofs.reading.read_decimal.Goals as goal
 
 pub returns : goal.returns

@@ -1,5 +1,5 @@
 use Rattle.std.proofs.Common.{◌≤◌, arith}
-use Rattle.psa_number.proofs.Digits.{power_small, power_some}
+use Rattle.psa_number.proofs.DigitLemmas.{power_small, power_some}
 use Rattle.psa_number.proofs.scaling.divisor_of.Goals as goal
 
 pub pow-requires : goal.pow-requires

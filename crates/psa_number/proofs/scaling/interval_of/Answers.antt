@@ -2,8 +2,8 @@ use Rattle.std.proofs.Common.{ℤ, ◌≡◌, ◌+ℤ◌, pos, to_z, of_z, w16, 
 use Rattle.std.proofs.lemmas.Int.{ints}
 use Rattle.psa_number.specs.Ends.{Ends}
 use Rattle.psa_number.specs.Fraction.{Holds, fraction_of}
-use Rattle.psa_number.proofs.Digits.{within_units, positive_interval, negative_interval}
-use Rattle.psa_number.proofs.Held.{decimal_held}
+use Rattle.psa_number.proofs.DigitLemmas.{within_units, positive_interval, negative_interval}
+use Rattle.psa_number.proofs.BracketLemmas.{decimal_held}
 use Rattle.psa_number.proofs.scaling.interval_of.Goals as goal
 
 -- the scale, as the code casts it

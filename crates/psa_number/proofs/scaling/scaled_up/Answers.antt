@@ -1,6 +1,6 @@
 use Rattle.std.proofs.Common.{◌≡◌, ◌<◌, pos, arith}
 use Rattle.std.proofs.lemmas.Int.{ints}
-use Rattle.psa_number.proofs.Digits.{scaled_value, scaled_small, power_within, zero_scaled}
+use Rattle.psa_number.proofs.DigitLemmas.{scaled_value, scaled_small, power_within, zero_scaled}
 use Rattle.psa_number.proofs.scaling.scaled_up.Goals as goal
 
 pub pow-requires : goal.pow-requires

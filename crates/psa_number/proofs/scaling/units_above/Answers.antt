@@ -1,7 +1,7 @@
 use Rattle.std.proofs.lemmas.Int.{ints, to_z-of_z}
 use Rattle.std.proofs.Common.{w16, pos, ◌<ℤ◌, ◌∙◌, arith}
 use Rattle.psa_number.specs.Operations.{magnitude_above}
-use Rattle.psa_number.proofs.Digits.{divided_above, below_small, cast_units}
+use Rattle.psa_number.proofs.DigitLemmas.{divided_above, below_small, cast_units}
 use Rattle.psa_number.proofs.scaling.units_above.Goals as goal
 
 pub overflow_cast-result : goal.overflow_cast-result

@@ -3,9 +3,9 @@ use Rattle.std.proofs.lemmas.Nat.{mul-le}
 use Rattle.psa_number.specs.Ends.{Ends}
 use Rattle.psa_number.specs.Fraction.{Fraction, Holds, exponential_at}
 use Rattle.psa_number.specs.Exponential.{raised, last_term}
-use Rattle.psa_number.proofs.Sums.{ends_ordered, upper_end_at_most}
-use Rattle.psa_number.proofs.Signed.{natural_ends, raised_grows, read_end}
-use Rattle.psa_number.proofs.Held.{held_if_exponential, exponential_held}
+use Rattle.psa_number.proofs.TaylorSumLemmas.{ends_ordered, upper_end_at_most}
+use Rattle.psa_number.proofs.SignedLemmas.{natural_ends, raised_grows, read_end}
+use Rattle.psa_number.proofs.BracketLemmas.{held_if_exponential, exponential_held}
 use Rattle.psa_number.proofs.taylor.exponential.Goals as goal
 
 pub returns-clause-exact : goal.returns-clause-exact

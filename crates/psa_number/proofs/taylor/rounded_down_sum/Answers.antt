@@ -1,7 +1,7 @@
 use Rattle.std.proofs.Common.{ℕ, ◌≡◌, ◌+◌, ◌*◌, ◌/◌, ◌^◌, ◌≤◌, arith, ap, sym, ◌∙◌}
 use Rattle.psa_number.specs.Units.{units}
 use Rattle.psa_number.specs.Exponential.{lower_term, last_term, greatest_place}
-use Rattle.psa_number.proofs.Sums.{lower_term-next, lower_sum-next, lower-first, lower_term_small}
+use Rattle.psa_number.proofs.TaylorSumLemmas.{lower_term-next, lower_sum-next, lower-first, lower_term_small}
 use Rattle.psa_number.proofs.taylor.rounded_down_sum.Invariants.{IsSoFar}
 use Rattle.psa_number.proofs.taylor.rounded_down_sum.Goals as goal
 

@@ -2,7 +2,7 @@ use Rattle.std.proofs.Common.{ℕ, ◌≡◌, ◌+◌, ◌*◌, ◌^◌, ◌<◌
 use Rattle.std.specs.Int.{div_ceil}
 use Rattle.psa_number.specs.Units.{units}
 use Rattle.psa_number.specs.Exponential.{upper_term, upper_sum, last_term, last_place, may_end, closed_sum, greatest_place}
-use Rattle.psa_number.proofs.Sums.{upper_term-next, upper_sum-next, upper-first, upper_term_small, first-next, first-here, first-none, may_end-true, may_end-false}
+use Rattle.psa_number.proofs.TaylorSumLemmas.{upper_term-next, upper_sum-next, upper-first, upper_term_small, first-next, first-here, first-none, may_end-true, may_end-false}
 use Rattle.psa_number.proofs.taylor.rounded_up_sum.Invariants.{IsSoFar}
 use Rattle.psa_number.proofs.taylor.rounded_up_sum.Goals as goal
 

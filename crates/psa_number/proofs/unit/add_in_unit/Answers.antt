@@ -4,8 +4,8 @@ use Rattle.psa_number.specs.Units.{units}
 use Rattle.psa_number.specs.Ends.{Ends}
 use Rattle.psa_number.specs.Operations.{IsInUnit}
 use Rattle.psa_number.specs.Fraction.{Fraction, Holds, plus, at_most_one}
-use Rattle.psa_number.proofs.Signed.{read_back, two_read, unit_ends_of, interval_of_unit, sums_in_unit}
-use Rattle.psa_number.proofs.Held.{unit_sum_held}
+use Rattle.psa_number.proofs.SignedLemmas.{read_back, two_read, unit_ends_of, interval_of_unit, sums_in_unit}
+use Rattle.psa_number.proofs.BracketLemmas.{unit_sum_held}
 use Rattle.psa_number.proofs.unit.add_in_unit.Goals as goal
 
 pub invariant_of-result : goal.invariant_of-result

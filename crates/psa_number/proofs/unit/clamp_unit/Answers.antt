@@ -2,8 +2,8 @@ use Rattle.std.proofs.Common.{sym, subst, rules, ◌∙◌}
 use Rattle.psa_number.specs.Ends.{Ends}
 use Rattle.psa_number.specs.Operations.{held_to_unit}
 use Rattle.psa_number.specs.Fraction.{Fraction, Holds, held_in_unit}
-use Rattle.psa_number.proofs.Signed.{read_back, one_read, interval_of_unit, held_in_order}
-use Rattle.psa_number.proofs.Held.{unit_held}
+use Rattle.psa_number.proofs.SignedLemmas.{read_back, one_read, interval_of_unit, held_in_order}
+use Rattle.psa_number.proofs.BracketLemmas.{unit_held}
 use Rattle.psa_number.proofs.unit.clamp_unit.Goals as goal
 
 pub returns-clause-exact : goal.returns-clause-exact

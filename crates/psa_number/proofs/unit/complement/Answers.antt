@@ -1,7 +1,7 @@
 use Rattle.std.proofs.Common.{sym, subst, rules}
 use Rattle.psa_number.specs.Ends.{Ends}
 use Rattle.psa_number.specs.Fraction.{Fraction, Holds, one_minus}
-use Rattle.psa_number.proofs.Held.{complement_held}
+use Rattle.psa_number.proofs.BracketLemmas.{complement_held}
 use Rattle.psa_number.proofs.unit.complement.Goals as goal
 
 pub returns-clause-exact : goal.returns-clause-exact

@@ -3,8 +3,8 @@ use Rattle.psa_number.specs.Units.{units, floor_units, ceil_units}
 use Rattle.psa_number.specs.Ends.{Ends}
 use Rattle.psa_number.specs.Operations.{IsInUnit}
 use Rattle.psa_number.specs.Fraction.{Fraction, Holds, times}
-use Rattle.psa_number.proofs.Signed.{read_back, product_read, unit_ends_of, interval_of_unit, products_in_unit}
-use Rattle.psa_number.proofs.Held.{unit_product_held}
+use Rattle.psa_number.proofs.SignedLemmas.{read_back, product_read, unit_ends_of, interval_of_unit, products_in_unit}
+use Rattle.psa_number.proofs.BracketLemmas.{unit_product_held}
 use Rattle.psa_number.proofs.unit.times_in_unit.Goals as goal
 
 pub invariant_of-result : goal.invariant_of-result

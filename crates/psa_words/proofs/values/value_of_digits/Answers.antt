@@ -1,5 +1,5 @@
 use Rattle.std.proofs.Common.{◌<◌, length, get_or, arith}
-use Rattle.psa_number.proofs.Digits.{read_none, read_next, digit_at, digit_of}
+use Rattle.psa_number.proofs.DigitLemmas.{read_none, read_next, digit_at, digit_of}
 use Rattle.psa_words.proofs.Numbers.{digits_room}
 use Rattle.psa_words.proofs.values.value_of_digits.Goals as goal
 

@@ -1,4 +1,4 @@
--- An interval that is computed brackets the exact number.
+-- An interval that is computed brackets the exact number, operation by operation.
 use Rattle.std.proofs.Common.{◌^◌, ◌/◌, sym, ℕ, ℤ, pos, negsuc, neg_ℤ, zero, suc, Bool, true, false, Result, Ok, Err, IfOk, ◌≡◌, ◌+◌, ◌*◌, ◌<◌, ◌≤◌, ◌+ℤ◌, ◌-ℤ◌, ◌*ℤ◌, ◌≤ℤ◌, int_lt, int_le, ◌||◌, ◌&&◌, ◌⊎◌, inl, inr, ⊎_elim, ◌<ℤ◌, ◌≢◌, cond, arith, refl, ap, ap₂, ◌∙◌, subst}
 use Rattle.std.specs.Int.{int_min, int_max, int_div_euclid}
 use Rattle.std.proofs.lemmas.Int.{ints, clamps}
@@ -15,14 +15,15 @@ use Rattle.std.proofs.lemmas.Grind.{div_ceil_times}
 use Rattle.psa_number.specs.Operations.{limited, is_limited, sum_ends, difference_ends, product_ends, exponential_of, IsInUnit, has_zero, floor_quotient, ceil_quotient, quotient_below, quotient_above, quotient_ends, quotient_of, negative_ends, positive_ends, decimal_ends, unit_ends, unit_sum_ends, unit_product_ends, complement_ends}
 use Rattle.psa_number.specs.Fraction.{Fraction, Holds, plus, difference, times, over, quotient, held_in_unit, at_most_one, one_minus, magnitude, fraction_of, minus, exponential_at}
 use Rattle.psa_number.specs.Exponential.{raised, numerator, denominator, last_term, lower_end_at, upper_end_at}
-use Rattle.psa_number.proofs.Sums.{lower_end_brackets, upper_end_brackets, numerator_some}
-use Rattle.psa_number.proofs.Signed.{parts_out, parts_in, raised_low, raised_high, times_up, between_low, between_high, by_up, IsLeast, IsGreatest, le_then, floor_over, floor_below, ceil_above, least_within, greatest_within, min_keeps, max_keeps}
+use Rattle.psa_number.proofs.TaylorSumLemmas.{lower_end_brackets, upper_end_brackets, numerator_some}
+use Rattle.psa_number.proofs.SignedLemmas.{parts_out, parts_in, raised_low, raised_high, times_up, between_low, between_high, by_up, IsLeast, IsGreatest, le_then, floor_over, floor_below, ceil_above, least_within, greatest_within, min_keeps, max_keeps}
 
 -- ---- the answer of an operation that can be refused
 limited_case : (P : Ends → Type 0) (e : Ends) (t : Bool) → P e → IfOk {E = NumberFault} (cond t (Ok e) (Err TooLarge)) P
 limited_case P e true h = h
 limited_case P e false h = tt
 
+-- What holds of the ends holds of the answer that gives them, unless it refuses them as too large.
 pub held_if_limited : (P : Ends → Type 0) (r : Result Ends NumberFault) (e : Ends) → r ≡ limited e → P e → IfOk r P
 held_if_limited P r e is h = rw is (limited_case P e (is_limited e) h)
 
@@ -32,6 +33,7 @@ up_product x y = (product_is x y).0
 down_product : (x y : ℤ) → down (x *ℤ y) ≡ up x * down y + down x * up y
 down_product x y = (product_is x y).1
 
+-- The ends of an answer may be replaced by equal ones.
 pub limited_same : (r : Result Ends NumberFault) (lo hi lo' hi' : ℤ) → r ≡ limited (record { lo = lo; hi = hi }) → lo ≡ lo' → hi ≡ hi' → r ≡ limited (record { lo = lo'; hi = hi' })
 limited_same r lo hi lo' hi' is lo_is hi_is = is ∙ ap₂ (λ (l h : ℤ). limited (record { lo = l; hi = h })) lo_is hi_is
 
@@ -57,6 +59,7 @@ sum_high a b nx ny dx dy h g =
     parts_in ((nx *ℤ pos dy) +ℤ (ny *ℤ pos dx)) (a +ℤ b) units (dx * dy)
     (omega (arith, h1, g1, s, sum_is_lem (nx *ℤ pos dy) (ny *ℤ pos dx), product_is nx (pos dy), product_is ny (pos dx)))
 
+-- The sum of two intervals brackets the sum of what they bracket.
 pub sum_held : (a b : Ends) (x y : Fraction) → Holds a x → Holds b y → Holds (sum_ends a b) (plus x y)
 sum_held a b x y h g = record {
   positive = positive_product x.den y.den h.positive g.positive;
@@ -65,15 +68,18 @@ sum_held a b x y h g = record {
 }
 
 -- ---- differences
+-- Negated, an upper end of a fraction is a lower end of the negated fraction.
 pub negative_low : (a n : ℤ) (d : ℕ) → (n *ℤ pos units) ≤ℤ (a *ℤ pos d) → (neg_ℤ a *ℤ pos d) ≤ℤ (neg_ℤ n *ℤ pos units)
 negative_low a n d h = parts_in (neg_ℤ a) (neg_ℤ n) d units (rw ((neg_is a).0, (neg_is a).1, (neg_is n).0, (neg_is n).1) (omega (arith, parts_out n a units d h)))
 
+-- Negated, a lower end of a fraction is an upper end of the negated fraction.
 pub negative_high : (a n : ℤ) (d : ℕ) → (a *ℤ pos d) ≤ℤ (n *ℤ pos units) → (neg_ℤ n *ℤ pos units) ≤ℤ (neg_ℤ a *ℤ pos d)
 negative_high a n d h = parts_in (neg_ℤ n) (neg_ℤ a) units d (rw ((neg_is a).0, (neg_is a).1, (neg_is n).0, (neg_is n).1) (omega (arith, parts_out a n d units h)))
 
 negative_times : (y : ℤ) (k : ℕ) → (neg_ℤ y *ℤ pos k) ≡ neg_ℤ (y *ℤ pos k)
 negative_times y k = same_in (neg_ℤ y *ℤ pos k) (neg_ℤ (y *ℤ pos k)) (omega (arith, product_is (neg_ℤ y) (pos k), product_is y (pos k), ap (λ (t : ℕ). t * k) (neg_is y).0, ap (λ (t : ℕ). t * k) (neg_is y).1, neg_is (y *ℤ pos k)))
 
+-- The difference of two intervals brackets the difference of what they bracket.
 pub difference_held : (a b : Ends) (x y : Fraction) → Holds a x → Holds b y → Holds (difference_ends a b) (difference x y)
 difference_held a b x y h g = record {
   positive = positive_product x.den y.den h.positive g.positive;
@@ -101,6 +107,7 @@ corner_low l a b d e h = rw (cross a b d e, ← scaled_twice l units (d * e)) (t
 corner_high : (l a b : ℤ) (d e : ℕ) → (a *ℤ b) ≤ℤ (l *ℤ pos units) → ((a *ℤ pos d) *ℤ (b *ℤ pos e)) ≤ℤ (l *ℤ pos (units * (d * e)))
 corner_high l a b d e h = rw (cross a b d e, ← scaled_twice l units (d * e)) (times_up (a *ℤ b) (l *ℤ pos units) (d * e) h)
 
+-- What is at most each product of ends is at most the product of the bracketed fractions.
 pub product_low : (l : ℤ) (a b : Ends) (x y : Fraction) → Holds a x → Holds b y
     → (l *ℤ pos units) ≤ℤ (a.lo *ℤ b.lo) → (l *ℤ pos units) ≤ℤ (a.lo *ℤ b.hi) → (l *ℤ pos units) ≤ℤ (a.hi *ℤ b.lo) → (l *ℤ pos units) ≤ℤ (a.hi *ℤ b.hi)
     → (l *ℤ pos (x.den * y.den)) ≤ℤ ((x.num *ℤ y.num) *ℤ pos units)
@@ -109,6 +116,7 @@ product_low l a b x y h g p00 p01 p10 p11 =
     h.low h.high g.low g.high (corner_low l a.lo b.lo x.den y.den p00) (corner_low l a.lo b.hi x.den y.den p01) (corner_low l a.hi b.lo x.den y.den p10) (corner_low l a.hi b.hi x.den y.den p11) in
     cancel_low l (x.num *ℤ y.num) (x.den * y.den) (rw (cross x.num y.num units units) at bound)
 
+-- What is at least each product of ends is at least the product of the bracketed fractions.
 pub product_high : (l : ℤ) (a b : Ends) (x y : Fraction) → Holds a x → Holds b y
     → (a.lo *ℤ b.lo) ≤ℤ (l *ℤ pos units) → (a.lo *ℤ b.hi) ≤ℤ (l *ℤ pos units) → (a.hi *ℤ b.lo) ≤ℤ (l *ℤ pos units) → (a.hi *ℤ b.hi) ≤ℤ (l *ℤ pos units)
     → ((x.num *ℤ y.num) *ℤ pos units) ≤ℤ (l *ℤ pos (x.den * y.den))
@@ -117,6 +125,7 @@ product_high l a b x y h g p00 p01 p10 p11 =
     h.low h.high g.low g.high (corner_high l a.lo b.lo x.den y.den p00) (corner_high l a.lo b.hi x.den y.den p01) (corner_high l a.hi b.lo x.den y.den p10) (corner_high l a.hi b.hi x.den y.den p11) in
     cancel_high l (x.num *ℤ y.num) (x.den * y.den) (rw (cross x.num y.num units units) at bound)
 
+-- The product of two intervals brackets the product of what they bracket.
 pub product_held : (a b : Ends) (x y : Fraction) → Holds a x → Holds b y → Holds (product_ends a b) (times x y)
 product_held a b x y h g =
     let l : ℤ = least (a.lo *ℤ b.lo) (a.lo *ℤ b.hi) (a.hi *ℤ b.lo) (a.hi *ℤ b.hi) in
@@ -155,11 +164,13 @@ max_first x y = omega (arith, ints, clamps)
 max_second : (x y : ℤ) → y ≤ℤ int_max x y
 max_second x y = omega (arith, ints, clamps)
 
+-- A lower end stays one where it and its fraction are both lowered to at most 1.
 pub min_held_low : (s n : ℤ) (d : ℕ) → (s *ℤ pos d) ≤ℤ (n *ℤ pos units) → (int_min (pos units) s *ℤ pos d) ≤ℤ (int_min (pos d) n *ℤ pos units)
 min_held_low s n d h = min_keeps (λ (z : ℤ). (int_min (pos units) s *ℤ pos d) ≤ℤ (z *ℤ pos units)) (pos d) n
     (le_then (int_min (pos units) s *ℤ pos d) (pos units *ℤ pos d) (pos d *ℤ pos units) (times_up (int_min (pos units) s) (pos units) d (min_first (pos units) s)) (same_units d))
     (le_then (int_min (pos units) s *ℤ pos d) (s *ℤ pos d) (n *ℤ pos units) (times_up (int_min (pos units) s) s d (min_second (pos units) s)) h)
 
+-- An upper end stays one where it and its fraction are both lowered to at most 1.
 pub min_held_high : (s n : ℤ) (d : ℕ) → (n *ℤ pos units) ≤ℤ (s *ℤ pos d) → (int_min (pos d) n *ℤ pos units) ≤ℤ (int_min (pos units) s *ℤ pos d)
 min_held_high s n d h = min_keeps (λ (z : ℤ). (int_min (pos d) n *ℤ pos units) ≤ℤ (z *ℤ pos d)) (pos units) s
     (le_then (int_min (pos d) n *ℤ pos units) (pos d *ℤ pos units) (pos units *ℤ pos d) (times_up (int_min (pos d) n) (pos d) units (min_first (pos d) n)) (same_units_back d))
@@ -170,6 +181,7 @@ max_held s n d e h = max_keeps (λ (z : ℤ). (z *ℤ pos d) ≤ℤ (int_max (po
     (le_then (pos 0 *ℤ pos d) (pos 0 *ℤ pos e) (int_max (pos 0) n *ℤ pos e) (no_units d e) (times_up (pos 0) (int_max (pos 0) n) e (max_first (pos 0) n)))
     (le_then (s *ℤ pos d) (n *ℤ pos e) (int_max (pos 0) n *ℤ pos e) h (times_up n (int_max (pos 0) n) e (max_second (pos 0) n)))
 
+-- An interval held to 0 and 1 brackets the fraction held to 0 and 1.
 pub unit_held : (a : Ends) (x : Fraction) → Holds a x → Holds (unit_ends a) (held_in_unit x)
 unit_held a x h = record {
   positive = h.positive;
@@ -177,6 +189,7 @@ unit_held a x h = record {
   high = max_held (int_min (pos x.den) x.num) (int_min (pos units) a.hi) units x.den (min_held_high a.hi x.num x.den h.high);
 }
 
+-- The sum of two intervals, held at 1, brackets the sum of what they bracket, lowered to at most 1.
 pub unit_sum_held : (a b : Ends) (x y : Fraction) → Holds a x → Holds b y → Holds (unit_sum_ends a b) (at_most_one (plus x y))
 unit_sum_held a b x y h g =
     let held = sum_held a b x y h g in
@@ -194,6 +207,7 @@ less_high : (a n : ℤ) (d : ℕ) → (a *ℤ pos d) ≤ℤ (n *ℤ pos units) �
 less_high a n d h = parts_in (pos d -ℤ n) (pos units -ℤ a) units d
     (omega (arith, parts_out a n d units h, ap (λ (t : ℕ). t * d) (sum_is_lem (pos units) (neg_ℤ a)), ap (λ (t : ℕ). t * d) (neg_is a).0, ap (λ (t : ℕ). t * d) (neg_is a).1, sum_is_lem (pos d) (neg_ℤ n), neg_is n))
 
+-- 1 less an interval brackets 1 less what it brackets.
 pub complement_held : (a : Ends) (x : Fraction) → Holds a x → Holds (complement_ends a) (one_minus x)
 complement_held a x h = record {
   positive = h.positive;
@@ -234,6 +248,7 @@ corner_greatest l p q (negsuc r) s hp hq hr hs h = absurd (omega (arith, ints))
 corner_greatest l p (negsuc q) r s hp hq hr hs h = absurd (omega (arith, ints))
 corner_greatest l p q r (negsuc s) hp hq hr hs h = absurd (omega (arith, ints))
 
+-- The product of two intervals within 0 and 1, by their like ends alone, brackets the exact product.
 pub unit_product_held : (a b : Ends) (x y : Fraction) → IsInUnit a → a.lo ≤ℤ a.hi → IsInUnit b → b.lo ≤ℤ b.hi → Holds a x → Holds b y → Holds (unit_product_ends a b) (times x y)
 unit_product_held a b x y in_a ordered_a in_b ordered_b h g =
     let least = corner_least (floor_units (a.lo *ℤ b.lo) *ℤ pos units) a.lo a.hi b.lo b.hi in_a.low ordered_a in_b.low ordered_b (floor_below (a.lo *ℤ b.lo)) in
@@ -300,6 +315,7 @@ pub record AreQuotients (l g : ℤ) (a b : Ends) : Type 0 where
   pub below : IsLeast l (quotient_below a.lo b.lo) (quotient_below a.lo b.hi) (quotient_below a.hi b.lo) (quotient_below a.hi b.hi)
   pub above : IsGreatest g (quotient_above a.lo b.lo) (quotient_above a.lo b.hi) (quotient_above a.hi b.lo) (quotient_above a.hi b.hi)
 
+-- Ends that bound each quotient of ends bracket the exact quotient, where the divisor is on one side of 0.
 pub quotient_held_by : (l g : ℤ) (a : Ends) (b0 b1 : ℤ) (x : Fraction) (m : ℤ) (e : ℕ) → (pos 0 <ℤ b0) ⊎ (b1 <ℤ pos 0) → b0 ≤ℤ b1 → AreQuotients l g a (record { lo = b0; hi = b1 }) → Holds a x
     → Holds (record { lo = b0; hi = b1 }) (record { num = m; den = e }) → Holds (record { lo = l; hi = g }) (over x m e)
 quotient_held_by l g a (pos (suc p)) (pos (suc q)) x (pos (suc m)) e apart ordered quotients h k =
@@ -334,9 +350,11 @@ apart_case l h true true e g is = absurd (cc)
 apart_case l h true false e g is = inr (below_in h (pos 0) (omega (arith, le-false (pos 0) h g)))
 apart_case l h false t e g is = inl (below_in (pos 0) l (omega (arith, le-false l (pos 0) e)))
 
+-- An interval without 0 is all above 0 or all below it.
 pub apart : (b : Ends) → has_zero b ≡ false → (pos 0 <ℤ b.lo) ⊎ (b.hi <ℤ pos 0)
 apart b is = apart_case b.lo b.hi (int_le b.lo (pos 0)) (int_le (pos 0) b.hi) refl refl is
 
+-- The quotient of two intervals brackets the quotient of what they bracket, where 0 is not in the divisor.
 pub quotient_held : (a b : Ends) (x y : Fraction) → has_zero b ≡ false → b.lo ≤ℤ b.hi → Holds a x → Holds b y → Holds (quotient_ends a b) (quotient x y)
 quotient_held a b x y clear ordered h g =
     quotient_held_by (quotient_ends a b).lo (quotient_ends a b).hi a b.lo b.hi x y.num y.den (apart b clear) ordered
@@ -351,11 +369,13 @@ sum_cancel f g n d h k =
     let both : (up f + up g) * suc d ≤ (down f + down g) * suc d = omega (arith, le_out (f *ℤ pos (suc d)) n h, le_out (g *ℤ pos (suc d)) (neg_ℤ n) k, product_is f (pos (suc d)), product_is g (pos (suc d)), neg_is n) in
     at_most_in f (neg_ℤ g) (omega (arith, le_of_mul-le-mul_right both (let s : 0 < suc d = omega arith in s), neg_is g))
 
+-- The floor of a quotient is at most its ceiling.
 pub floor_at_most_ceil : (n y : ℤ) → y ≢ pos 0 → floor_quotient n y ≤ℤ ceil_quotient n y
 floor_at_most_ceil n (pos zero) some = absurd (some refl)
 floor_at_most_ceil n (pos (suc d)) some = sum_cancel (floor_quotient n (pos (suc d))) (floor_quotient (neg_ℤ n) (pos (suc d))) n d (floor_over n d) (floor_over (neg_ℤ n) d)
 floor_at_most_ceil n (negsuc d) some = sum_cancel (floor_quotient n (negsuc d)) (floor_quotient (neg_ℤ n) (negsuc d)) (neg_ℤ n) d (floor_over (neg_ℤ n) d) (floor_over (neg_ℤ (neg_ℤ n)) d)
 
+-- No end of an interval without 0 is 0.
 pub nonzero : (b : Ends) → has_zero b ≡ false → b.lo ≤ℤ b.hi → (b.lo ≢ pos 0) × (b.hi ≢ pos 0)
 nonzero b clear ordered = ((λ (e : b.lo ≡ pos 0). away (apart b clear) (same_out b.lo (pos 0) e)), (λ (e : b.hi ≡ pos 0). away_high (apart b clear) (same_out b.hi (pos 0) e)))
   where
@@ -365,6 +385,7 @@ nonzero b clear ordered = ((λ (e : b.lo ≡ pos 0). away (apart b clear) (same_
     away_high : (pos 0 <ℤ b.lo) ⊎ (b.hi <ℤ pos 0) → (up b.hi ≡ 0) × (down b.hi ≡ 0) → ⊥
     away_high which e = ⊎_elim (λ (p : pos 0 <ℤ b.lo). omega (arith, ints, e)) (λ (n : b.hi <ℤ pos 0). omega (arith, ints, e)) which
 
+-- The ends of a quotient are in order.
 pub quotient_ordered : (a b : Ends) → b.lo ≢ pos 0 → (quotient_ends a b).lo ≤ℤ (quotient_ends a b).hi
 quotient_ordered a b some =
     let below = least_within (quotient_below a.lo b.lo) (quotient_below a.lo b.hi) (quotient_below a.hi b.lo) (quotient_below a.hi b.hi) in
@@ -376,6 +397,7 @@ not_refused_case : (r q : Result Ends NumberFault) (t : Bool) → t ≡ false �
 not_refused_case r q true clear is = absurd (cc)
 not_refused_case r q false clear is = is
 
+-- Where 0 is not in the divisor, the limited quotient is the whole answer of a division.
 pub not_refused : (r : Result Ends NumberFault) (a b : Ends) → has_zero b ≡ false → r ≡ limited (quotient_ends a b) → r ≡ quotient_of a b
 not_refused r a b clear is = not_refused_case r (limited (quotient_ends a b)) (has_zero b) clear is
 
@@ -392,6 +414,7 @@ end_low e a b h = parts_in (pos e) (pos a -ℤ pos b) a units (omega (arith, h, 
 end_high : (e a b : ℕ) → a * units ≤ e * a + b * units → ((pos a -ℤ pos b) *ℤ pos units) ≤ℤ (pos e *ℤ pos a)
 end_high e a b h = parts_in (pos a -ℤ pos b) (pos e) units a (omega (arith, h, sum_is_lem (pos a) (neg_ℤ (pos b)), neg_is (pos b)))
 
+-- The ends of the exponential bracket each exact Taylor sum that is at least as long.
 pub exponential_held : (rate time : Ends) (m : ℕ) (x y : Fraction) → last_term ≤ m → Holds rate x → Holds time y
     → Holds (record { lo = pos (lower_end_at (raised rate.lo * raised time.lo)); hi = pos (upper_end_at (raised rate.hi * raised time.hi)) }) (exponential_at m x y)
 exponential_held rate time m x y long h g =
@@ -409,11 +432,13 @@ exponential_case : (P : Ends → Type 0) (r e : Ends) (t : Bool) → Ok r ≡ co
 exponential_case P r e true is h = absurd (cc)
 exponential_case P r e false is h = let same : e ≡ r = cc in subst P same h
 
+-- What holds of the ends of the exponential holds of an interval that it answers.
 pub held_if_exponential : (P : Ends → Type 0) (rate time r : Ends) → Ok r ≡ exponential_of rate time
     → P (record { lo = pos (lower_end_at (raised rate.lo * raised time.lo)); hi = pos (upper_end_at (raised rate.hi * raised time.hi)) }) → P r
 held_if_exponential P rate time r is h = exponential_case P r (record { lo = pos (lower_end_at (raised rate.lo * raised time.lo)); hi = pos (upper_end_at (raised rate.hi * raised time.hi)) }) (int_lt rate.hi (pos 0) || int_lt time.hi (pos 0)) is h
 
 -- ---- decimals
+-- A negated interval brackets the negated fraction.
 pub negative_held : (a : Ends) (x : Fraction) → Holds a x → Holds (negative_ends a) (minus x)
 negative_held a x h = record {
   positive = h.positive;
@@ -427,6 +452,7 @@ power_sum i j k e = ap (λ (n : ℕ). 10 ^ n) (sym e) ∙ pow-add 10 i j
 ten_some : (k : ℕ) → 0 < 10 ^ k
 ten_some k = let ten : 0 < 10 = omega arith in omega (arith, one-le-pow k 10 ten)
 
+-- The interval of a decimal without its sign brackets the decimal's magnitude.
 pub magnitude_held : (digits : ℕ) (e s : ℤ) → s ≡ (e +ℤ pos 12) → Holds (positive_ends digits s) (magnitude digits e)
 magnitude_held digits (pos high) (pos k) is =
     let all = ap (λ (t : ℕ). digits * t) (power_sum high 12 k (omega (arith, ints))) in
@@ -458,5 +484,6 @@ decimal_case : (digits : ℕ) (e : ℤ) (t : Bool) → Holds (cond t (negative_e
 decimal_case digits e true = negative_held (positive_ends digits (e +ℤ pos 12)) (magnitude digits e) (magnitude_held digits e (e +ℤ pos 12) refl)
 decimal_case digits e false = magnitude_held digits e (e +ℤ pos 12) refl
 
+-- The interval of a decimal brackets the number that the decimal is.
 pub decimal_held : (d : Scaled) → Holds (decimal_ends d) (fraction_of d)
 decimal_held d = decimal_case d.digits d.exponent d.negative

@@ -1,4 +1,4 @@
--- The rounded Taylor sums bracket the exact ones, all on natural numbers.
+-- The rounded Taylor sums bracket the exact ones, all in natural numbers.
 use Rattle.std.proofs.Common.{ℕ, zero, suc, ◌≡◌, ◌+◌, ◌-◌, ◌*◌, ◌/◌, ◌^◌, ◌<◌, ◌≤◌, Bool, true, false, ◌⊎◌, inl, inr, ⊎_elim, min, nat_le, nat_lt, refl, ap, subst, cond, arith, ◌&&◌, le_refl, le_trans, leb-true, ltb-false, add-one, ◌∙◌, le-leb}
 use Rattle.std.proofs.Math.Nat.{mul-le-mul_left, mul-le-mul_right, div-mul-le_self, div-le_of_le-mul, le_of_mul-le-mul_right}
 use Rattle.std.proofs.lemmas.Nat.{mul-le}
@@ -18,6 +18,7 @@ lower_step t p k n d dk nk below term =
     let h4 : (units * nk) * (p * d) ≤ (units * nk) * (n * units) = mul-le-mul_left (units * nk) below in
     omega (arith, h2, h3, h4)
 
+-- A term rounded down, at no more than the exact place, is at most the exact term.
 pub lower_term_below : (p n d k : ℕ) → p * d ≤ n * units → lower_term p k * denominator d k ≤ units * power n k
 unfolding lower_term denominator power
 lower_term_below p n d zero below = omega arith
@@ -28,6 +29,7 @@ sum_step s t u w n d dk k pk h1 h2 =
     let h3 : (s * dk) * (d * suc k) ≤ (u * n) * (d * suc k) = mul-le-mul_right (d * suc k) h1 in
     omega (arith, h2, h3)
 
+-- A sum of terms rounded down, at no more than the exact place, is at most the exact sum.
 pub lower_sum_below : (p n d k : ℕ) → p * d ≤ n * units → lower_sum p k * denominator d k ≤ units * numerator n d k
 unfolding lower_sum denominator numerator
 lower_sum_below p n d zero below = omega arith
@@ -45,6 +47,7 @@ upper_step t q k n d dk nk above term =
     let h4 : (units * nk) * (n * units) ≤ (units * nk) * (q * d) = mul-le-mul_left (units * nk) above in
     omega (arith, h2, h3, h4)
 
+-- A term rounded up, at no less than the exact place, is at least the exact term.
 pub upper_term_above : (q n d k : ℕ) → n * units ≤ q * d → units * power n k ≤ upper_term q k * denominator d k
 unfolding upper_term denominator power
 upper_term_above q n d zero above = omega arith
@@ -55,6 +58,7 @@ sum_step_up s t u n d dk k pk h1 h2 =
     let h3 : (u * n) * (d * suc k) ≤ (s * dk) * (d * suc k) = mul-le-mul_right (d * suc k) h1 in
     omega (arith, h2, h3)
 
+-- A sum of terms rounded up, at no less than the exact place, is at least the exact sum.
 pub upper_sum_above : (q n d k : ℕ) → n * units ≤ q * d → units * numerator n d k ≤ upper_sum q k * denominator d k
 unfolding upper_sum denominator numerator
 upper_sum_above q n d zero above = omega arith
@@ -68,6 +72,7 @@ unfoldable pub later : ℕ → ℕ → ℕ
 later k zero = k
 later k (suc more) = suc (later k more)
 
+-- The place `more` after place k is k + more.
 pub later_is : (k more : ℕ) → later k more ≡ k + more
 unfolding later
 later_is k zero = omega arith
@@ -107,6 +112,7 @@ upper_sum_longer c n d k (suc more) half h =
     tail_step c n d (denominator d (later k more)) (later k more) (numerator n d (later k more)) (power n (later k more)) (half_later n d k (later k more) le half) (upper_sum_longer c n d k more half h)
 
 -- ---- the last place of the upper sum
+-- a search for the first number that passes ended at one that does, or at its stop
 pub record Ended (test : ℕ → Bool) (stop end : ℕ) : Type 0 where
   pub within : end ≤ stop
   pub passes : (test end ≡ true) ⊎ (end ≡ stop)
@@ -115,6 +121,7 @@ first_case : (test : ℕ → Bool) (k left : ℕ) (t : Bool) → test k ≡ t �
 first_case test k left true e rest = record { within = omega arith; passes = inl e }
 first_case test k left false e rest = let same : suc k + left ≡ k + suc left = omega arith in subst (λ (stop : ℕ). Ended test stop (first_from test (suc k) left)) same rest
 
+-- A search for the first number that passes ends at one that does, or at its stop.
 pub first_ends : (test : ℕ → Bool) (k left : ℕ) → Ended test (k + left) (first_from test k left)
 unfolding first_from
 first_ends test k zero = record { within = omega arith; passes = inr (omega arith) }
@@ -124,14 +131,17 @@ first_ends test k (suc left) = first_case test k left (test k) refl (first_ends 
 le_or_lt : (m n : ℕ) → (m ≤ n) ⊎ (n < m)
 le_or_lt m n = ⊎_elim (λ (after : n < m). inr after) (λ (before : m ≤ n). inl before) (cases_lt n m)
 
+-- A quotient rounded up is at most c where the dividend is at most c times the divisor.
 pub ceil_at_most : (a b c : ℕ) → 0 < b → a ≤ c * b → div_ceil a b ≤ c
 ceil_at_most a b c some h = ⊎_elim (λ (small : div_ceil a b ≤ c). small) (λ (large : c < div_ceil a b).
     let h1 : suc c * b ≤ div_ceil a b * b = mul-le-mul_right b (let l : suc c ≤ div_ceil a b = omega arith in l) in
     absurd (omega (arith, h1, div_ceil_times a b some))) (le_or_lt (div_ceil a b) c)
 
+-- A quotient rounded up grows with its dividend.
 pub ceil_grows : (a b c : ℕ) → 0 < c → a ≤ b → div_ceil a c ≤ div_ceil b c
 ceil_grows a b c some h = ceil_at_most a c (div_ceil b c) some (le_trans h (div_ceil_times b c some).0)
 
+-- A quotient rounded down is at most the quotient, rounded up, of a dividend that is not less.
 pub floor_below_ceil : (a b c : ℕ) → 0 < c → a ≤ b → a / c ≤ div_ceil b c
 floor_below_ceil a b c some h =
     let h1 : a / c * c ≤ div_ceil b c * c = le_trans (div-mul-le_self a c) (le_trans h (div_ceil_times b c some).0) in
@@ -169,18 +179,22 @@ small_at k (suc n) le h = let both = both_true (nat_le (upper_term greatest_plac
     ⊎_elim (λ (before : k ≤ n). small_at k n before both.1) (λ (after : n < k).
     let here : k ≡ suc n = omega arith in rw here (leb-true (upper_term greatest_place (suc n)) (10 ^ 24) both.0)) (le_or_lt k n)
 
+-- Each term of an upper sum, at a place within the limit, is at most 10^24.
 pub upper_term_small : (q k : ℕ) → q ≤ greatest_place → k ≤ last_term → upper_term q k ≤ 10 ^ 24
 upper_term_small q k place le = le_trans (upper_term_grows q greatest_place k place) (small_at k 160 le they_are_small)
 
+-- Each term of a lower sum, at a place within the limit, is at most 10^24.
 pub lower_term_small : (p k : ℕ) → p ≤ greatest_place → k ≤ last_term → lower_term p k ≤ 10 ^ 24
 lower_term_small p k place le = le_trans (lower_term_below_upper p greatest_place k place) (small_at k 160 le they_are_small)
 
 -- ---- the ends
+-- A lower sum is at least 1.
 pub lower_sum_some : (p k : ℕ) → units ≤ lower_sum p k
 unfolding lower_sum
 lower_sum_some p zero = le_refl units
 lower_sum_some p (suc k) = omega (arith, lower_sum_some p k)
 
+-- An upper sum is at least 1.
 pub upper_sum_some : (q k : ℕ) → units ≤ upper_sum q k
 unfolding upper_sum
 upper_sum_some q zero = le_refl units
@@ -266,6 +280,7 @@ upper_case high n d m false e long above =
 pub upper_end_brackets : (high n d m : ℕ) → last_term ≤ m → n * (units * units) ≤ high * d → numerator n d m * units ≤ upper_end_at high * numerator n d m + denominator d m * units
 upper_end_brackets high n d m long above = upper_case high n d m (nat_lt (greatest_place * units) high) refl long above
 
+-- An exact sum is more than 0.
 pub numerator_some : (n d k : ℕ) → 0 < d → 0 < numerator n d k
 unfolding numerator
 numerator_some n d zero some = omega arith
@@ -274,6 +289,7 @@ numerator_some n d (suc k) some =
     let h2 : 1 * 1 ≤ numerator n d k * (d * suc k) = mul-le 1 1 (numerator n d k) (d * suc k) (omega (arith, numerator_some n d k some)) (omega (arith, h1)) in
     omega (arith, h2)
 
+-- The lower end of an exponential is at most the upper end.
 pub ends_ordered : (low high : ℕ) → low ≤ high → lower_end_at low ≤ upper_end_at high
 ends_ordered low high le =
     let d : ℕ = units * units in
@@ -283,26 +299,32 @@ ends_ordered low high le =
     le_of_mul-le-mul_right h3 (numerator_some low d last_term (omega arith))
 
 -- ---- one term more, as the loops go on
+-- The next term of a lower sum is the last one times the place, by the number of the term, rounded down.
 pub lower_term-next : (p k : ℕ) → lower_term p (k + 1) ≡ lower_term p k * p / ((k + 1) * units)
 unfolding lower_term
 lower_term-next p k = rw add-one refl
 
+-- A lower sum goes on by its next term.
 pub lower_sum-next : (p k : ℕ) → lower_sum p (k + 1) ≡ lower_sum p k + lower_term p (k + 1)
 unfolding lower_sum
 lower_sum-next p k = rw add-one refl
 
+-- The next term of an upper sum is the last one times the place, by the number of the term, rounded up.
 pub upper_term-next : (q k : ℕ) → upper_term q (k + 1) ≡ div_ceil (upper_term q k * q) ((k + 1) * units)
 unfolding upper_term
 upper_term-next q k = rw add-one refl
 
+-- An upper sum goes on by its next term.
 pub upper_sum-next : (q k : ℕ) → upper_sum q (k + 1) ≡ upper_sum q k + upper_term q (k + 1)
 unfolding upper_sum
 upper_sum-next q k = rw add-one refl
 
+-- A lower sum begins with 1, its first term.
 pub lower-first : (p : ℕ) → (lower_term p 0 ≡ units) × (lower_sum p 0 ≡ units)
 unfolding lower_term lower_sum
 lower-first p = (refl, refl)
 
+-- An upper sum begins with 1, its first term.
 pub upper-first : (q : ℕ) → (upper_term q 0 ≡ units) × (upper_sum q 0 ≡ units)
 unfolding upper_term upper_sum
 upper-first q = (refl, refl)
@@ -311,6 +333,7 @@ first_of-next : (test : ℕ → Bool) (k left : ℕ) → test k ≡ false → fi
 unfolding first_from
 first_of-next test k left h = rw h refl
 
+-- A search for the first number that passes goes on past one that does not.
 pub first-next : (test : ℕ → Bool) (k end : ℕ) → k < end → test k ≡ false → first_from test k (end - k) ≡ first_from test (k + 1) (end - (k + 1))
 first-next test k end le h =
     let e : end - k ≡ suc (end - (k + 1)) = omega arith in
@@ -321,6 +344,7 @@ first_of-here : (test : ℕ → Bool) (k left : ℕ) → test k ≡ true → fir
 unfolding first_from
 first_of-here test k left h = rw h refl
 
+-- A search for the first number that passes ends at one that does.
 pub first-here : (test : ℕ → Bool) (k end : ℕ) → k < end → test k ≡ true → first_from test k (end - k) ≡ k
 first-here test k end le h =
     let e : end - k ≡ suc (end - (k + 1)) = omega arith in
@@ -330,11 +354,13 @@ first_of-none : (test : ℕ → Bool) (k : ℕ) → first_from test k zero ≡ k
 unfolding first_from
 first_of-none test k = refl
 
+-- A search for the first number that passes ends at its stop where no number is left.
 pub first-none : (test : ℕ → Bool) (k end : ℕ) → k ≡ end → first_from test k (end - k) ≡ k
 first-none test k end same =
     let e : end - k ≡ zero = omega arith in
     ap (first_from test k) e ∙ first_of-none test k
 
+-- The test of the code that an upper sum may end, where it passes.
 pub may_end-true : (q k : ℕ) → 2 * q ≤ (k + 1) * units → upper_term q k ≤ 1 → may_end q k ≡ true
 may_end-true q k half small = let half2 : 2 * q ≤ suc k * units = omega arith in rw (le-leb (2 * q) (suc k * units) half2, le-leb (upper_term q k) 1 small) refl
 
@@ -349,6 +375,7 @@ not_le_case m n false e h = refl
 not_le : (m n : ℕ) → n < m → nat_le m n ≡ false
 not_le m n h = not_le_case m n (nat_le m n) refl h
 
+-- The test of the code that an upper sum may end, where it does not pass.
 pub may_end-false : (q k : ℕ) → (((k + 1) * units < 2 * q) ⊎ (1 < upper_term q k)) → may_end q k ≡ false
 may_end-false q k why = ⊎_elim (λ (large : (k + 1) * units < 2 * q). let more : suc k * units < 2 * q = omega arith in rw (not_le (2 * q) (suc k * units) more) refl)
     (λ (large : 1 < upper_term q k). rw (not_le (upper_term q k) 1 large) (and-false (nat_le (2 * q) (suc k * units)))) why
@@ -358,5 +385,6 @@ upper_end_case : (high : ℕ) (t : Bool) → cond t units (upper_end (closed_sum
 upper_end_case high true = omega arith
 upper_end_case high false = omega arith
 
+-- The upper end of an exponential is at most 1.
 pub upper_end_at_most : (high : ℕ) → upper_end_at high ≤ units
 upper_end_at_most high = upper_end_case high (nat_lt (greatest_place * units) high)

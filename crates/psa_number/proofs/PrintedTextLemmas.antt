@@ -1,4 +1,4 @@
--- The text of a number of units.
+-- The text that is printed for a number of units is its text by the definition, and reads as the number.
 use Rattle.std.proofs.Common.{rules, cond, int_lt, unsigned_abs, ne_eqb, ◌==◌, ℕ, ℤ, pos, negsuc, zero, suc, ◌≡◌, ◌+◌, ◌-◌, ◌*◌, ◌/◌, ◌%◌, ◌^◌, ◌<◌, ◌≤◌, ◌-ℤ◌, Bool, true, false, not, ◌&&◌, List, [], ◌∷◌, ◌++◌, length, take, drop, Some, Ok, nat_lt, refl, ap, ap₂, sym, ◌∙◌, arith, append_assoc, append-nil, length-append, le-ltb, le-leb}
 use Rattle.std.specs.List.{list_all, prefix_len, position_or_len, before_first, after_first}
 use Rattle.std.specs.Char.{is_ascii_digit, digit_value}
@@ -12,12 +12,13 @@ use Rattle.std.proofs.lemmas.Str.Parse.{IsNumeralModel, numerals_by_value}
 use Rattle.std.proofs.lemmas.Fmt.{decimal_digit, decimal_step, length-decimal-le, digits_decimal, digits_value-decimal, decimal_nonempty}
 use Rattle.psa_number.specs.DecimalText.{last_digits, are_digits, is_point, is_mark, exponent_part, unsigned_of, number_of, scaled_of, decimal_of, text_of_units, scaled_of_units, sign_of}
 use Rattle.psa_number.specs.Units.{units}
-use Rattle.psa_number.proofs.Digits.{after_push, after_append, digit_of, unsigned_reads}
+use Rattle.psa_number.proofs.DigitLemmas.{after_push, after_append, digit_of, unsigned_reads}
 
 -- one digit
 pub whole_digit : (t : List ℕ) (n : ℕ) → n < 10 → t ++ (48 + n % 10) ∷ [] ≡ t ++ decimal n
 whole_digit t n small = let same : n % 10 ≡ n = omega arith in rw (decimal_digit n small, same) refl
 
+-- The digits of a number below 10^7, but for its last, are at most 7.
 pub front_short : (n : ℕ) → n < 10 ^ 7 → length (decimal (n / 10)) ≤ 7
 front_short n small = length-decimal-le 7 (n / 10) (omega arith) (omega arith) (omega arith)
 
@@ -25,15 +26,18 @@ front_short n small = length-decimal-le 7 (n / 10) (omega arith) (omega arith) (
 pub whole_step : (t : List ℕ) (n : ℕ) → 10 ≤ n → n < 10 ^ 7 → (t ++ decimal (n / 10)) ++ (48 + n % 10) ∷ [] ≡ t ++ decimal n
 whole_step t n more small = let fits : n < 2 ^ 64 = omega arith in append_assoc t (decimal (n / 10)) ((48 + n % 10) ∷ []) ∙ ap (λ (ds : List ℕ). t ++ ds) (sym (decimal_step n more fits))
 
+-- The last digits of a number are as many as are asked for.
 pub length-last_digits : (places n : ℕ) → length (last_digits places n) ≡ places
 unfolding last_digits
 length-last_digits zero n = refl
 length-last_digits (suc places) n = omega (arith, length-append (last_digits places (n / 10)) ((48 + n % 10) ∷ []), length-last_digits places (n / 10))
 
+-- No digits more leave the text as it is.
 pub last_none : (t : List ℕ) (n : ℕ) → t ≡ t ++ last_digits 0 n
 unfolding last_digits
 last_none t n = sym (append-nil t)
 
+-- One digit behind the last digits of a tenth of a number gives one digit more of the number.
 pub last_step : (t : List ℕ) (places n : ℕ) → 0 < places → (t ++ last_digits (places - 1) (n / 10)) ++ (48 + n % 10) ∷ [] ≡ t ++ last_digits places n
 unfolding last_digits
 last_step t zero n some = absurd (omega arith)
@@ -43,6 +47,7 @@ last_step t (suc places) n some = let less : suc places - 1 ≡ places = omega a
 is_digit_after : (n : ℕ) → n < 10 → is_ascii_digit (48 + n) ≡ true
 is_digit_after n small = grind (arith, nat_tests)
 
+-- The last digits of a number are all digits.
 pub are_digits-last : (places n : ℕ) → are_digits (last_digits places n) ≡ true
 unfolding last_digits
 are_digits-last zero n = refl
@@ -146,6 +151,7 @@ signed_text : (negative : Bool) (w f : List ℕ) → are_digits w ≡ true → a
 signed_text true w f w_digits f_digits some = ap (unsigned_of true) (append_assoc w (46 ∷ []) f) ∙ plain_as true w f w_digits f_digits some
 signed_text false w f w_digits f_digits some = ap decimal_of (append_assoc w (46 ∷ []) f) ∙ plain_text w f w_digits f_digits some
 
+-- The text of a number of units within the limit reads as the number that it was printed from.
 pub units_read_back : (v : ℤ) → unsigned_abs v ≤ 10 ^ 18 → decimal_of (text_of_units v) ≡ Ok (scaled_of_units v)
 units_read_back v small =
     let n : ℕ = unsigned_abs v in
@@ -164,6 +170,7 @@ sign_case : (t : Bool) → length {A = ℕ} (cond t (45 ∷ []) []) ≤ 1
 sign_case true = omega arith
 sign_case false = omega arith
 
+-- A sign takes at most one byte.
 pub sign_short : (v : ℤ) → length (sign_of v) ≤ 1
 sign_short v = sign_case (int_lt v (pos 0))
 
@@ -173,5 +180,6 @@ front_length v n start sign front small empty sign_is front_is =
     let short : length (decimal (n / units)) ≤ 7 = length-decimal-le 7 (n / units) (omega arith) (omega arith) (omega arith) in
     omega (arith, ap length front_is, length-append (start ++ sign) (decimal (n / units)), length-append start sign, ap length sign_is, sign_short v, short, empty)
 
+-- The text in its parts, as the code writes them, is the text of the number of units.
 pub text_is : (v : ℤ) (n : ℕ) → n ≡ unsigned_abs v → ((sign_of v ++ decimal (n / units)) ++ 46 ∷ []) ++ last_digits 12 (n % units) ≡ text_of_units v
 text_is v n is = ap (λ (k : ℕ). ((sign_of v ++ decimal (k / units)) ++ 46 ∷ []) ++ last_digits 12 (k % units)) is

@@ -1,4 +1,4 @@
--- Digits, places and powers of ten.
+-- Digits give the value of a decimal within the limits, and powers of ten scale it to units.
 use Rattle.std.proofs.lemmas.Int.{ints}
 use Rattle.std.proofs.Common.{Err, int_lt, ◌||◌, length-append, lt-ltb, le-ltb, ap₂, min, unsigned_abs, ◌+ℤ◌, ◌≤ℤ◌, ℤ, pos, negsuc, ◌-ℤ◌, ◌<ℤ◌, ℕ, zero, suc, ◌≡◌, ◌+◌, ◌-◌, ◌*◌, ◌/◌, ◌^◌, ◌<◌, ◌≤◌, Bool, true, false, cond, not, List, [], ◌∷◌, ◌++◌, length, take, get_or, Option, Some, None, unwrap_or, nat_lt, nat_le, ◌==◌, ◌&&◌, ⊎_elim, refl, ap, sym, ◌∙◌, arith, le_refl, leb-true, le-leb, ltb-false, leb-false, ne_eqb, ◌≢◌}
 use Rattle.std.specs.List.{position, position_or_len, before_first, after_first}
@@ -15,10 +15,10 @@ use Rattle.std.specs.Int.{div_ceil, w128}
 use Rattle.std.proofs.lemmas.Int.{to_z_pos}
 use Rattle.std.proofs.Common.{to_z}
 use Rattle.psa_number.specs.Ends.{IsInterval}
-use Rattle.psa_number.proofs.Signed.{read}
+use Rattle.psa_number.proofs.SignedLemmas.{read}
 use Rattle.psa_number.specs.Scaled.{IsWithin}
 use Rattle.psa_number.specs.Operations.{magnitude_below, magnitude_above}
-use Rattle.psa_number.proofs.Sums.{floor_below_ceil, ceil_at_most}
+use Rattle.psa_number.proofs.TaylorSumLemmas.{floor_below_ceil, ceil_at_most}
 use Rattle.psa_number.specs.DecimalText.{are_digits, is_within, number_of, scaled_of, decimal_of, unsigned_of, with_exponent, is_mantissa, exponent_part, whole_part, fraction_part, is_mark, is_point}
 use Rattle.psa_number.specs.declared.fault.NumberFault.TheVariants.{TooManyDigits, NotDecimal}
 
@@ -27,10 +27,12 @@ place_case : (n end : ℕ) (t : Bool) → nat_lt n end ≡ t → n ≤ end → u
 place_case n end true e le = refl
 place_case n end false e le = let past : end ≤ n = ltb-false n end e in omega arith
 
+-- The first place that passes, or the length where none does, as the code finds it.
 pub place_is : (p : ℕ → Bool) (xs : List ℕ) → unwrap_or (position p xs) (length xs) ≡ position_or_len p xs
 place_is p xs = place_case (position_or_len p xs) (length xs) (nat_lt (position_or_len p xs) (length xs)) refl (prefix_len-le-length (λ x. not (p x)) xs)
 
 -- ---- digits
+-- The value of an ASCII digit is its code less 48, which is from 0 to 9.
 pub digit_of : (c : ℕ) → is_ascii_digit c ≡ true → (digit_value c ≡ c - 48) × (48 ≤ c) × (c ≤ 57)
 digit_of c is = grind (arith, nat_tests)
 
@@ -38,13 +40,16 @@ digit_case : (ds : List ℕ) (i : ℕ) (t : Bool) → is_ascii_digit (get_or ds 
 digit_case ds i true e le all = e
 digit_case ds i false e le all = let none : are_digits ds ≡ false = list_all_at is_ascii_digit ds i 0 le e in absurd (cc)
 
+-- Each place of a list of digits has a digit.
 pub digit_at : (ds : List ℕ) (i : ℕ) → i < length ds → are_digits ds ≡ true → is_ascii_digit (get_or ds i 0) ≡ true
 digit_at ds i le all = digit_case ds i (is_ascii_digit (get_or ds i 0)) refl le all
 
+-- One digit more makes the value ten times as large and adds the digit.
 pub after_push : (n : ℕ) (ds : List ℕ) (c : ℕ) → digits_value_after 10 n (ds ++ c ∷ []) ≡ digits_value_after 10 n ds * 10 + digit_value c
 after_push n [] c = refl
 after_push n (d ∷ ds) c = after_push (n * 10 + digit_value d) ds c
 
+-- Digits behind others go on from the value of those before.
 pub after_append : (n : ℕ) (xs ys : List ℕ) → digits_value_after 10 n (xs ++ ys) ≡ digits_value_after 10 (digits_value_after 10 n xs) ys
 after_append n [] ys = refl
 after_append n (x ∷ xs) ys = after_append (n * 10 + digit_value x) xs ys
@@ -54,12 +59,14 @@ pub record IsReadSoFar (start value i : ℕ) (digits : List ℕ) : Type 0 where
   pub value_is : value ≡ digits_value_after 10 start (take i digits)
   pub room : (value + 1) * 10 ^ (length digits - i) ≤ (start + 1) * 10 ^ length digits
 
+-- Before the first digit, the value is the start.
 pub read_none : (start : ℕ) (digits : List ℕ) → IsReadSoFar start start 0 digits
 read_none start digits = let same : length digits - 0 ≡ length digits = omega arith in record {
   value_is = refl;
   room = rw same (le_refl ((start + 1) * 10 ^ length digits));
 }
 
+-- After one digit more, the value is that of the digits so far.
 pub read_next : (start value i : ℕ) (digits : List ℕ) → i < length digits → are_digits digits ≡ true → IsReadSoFar start value i digits → IsReadSoFar start (value * 10 + (get_or digits i 0 - 48)) (i + 1) digits
 read_next start value i digits le all so_far =
     let digit = digit_of (get_or digits i 0) (digit_at digits i le all) in
@@ -85,10 +92,12 @@ read_room start value i digits le so_far limit =
     omega (arith, h2, so_far.room)
 
 -- ---- tests of size
+-- The test m <= n answers false where n is less than m; by what the test answered.
 pub not_le_case : (m n : ℕ) (t : Bool) → nat_le m n ≡ t → n < m → t ≡ false
 not_le_case m n true e h = absurd (omega (arith, leb-true m n e))
 not_le_case m n false e h = refl
 
+-- The test m <= n answers false where n is less than m.
 pub not_le : (m n : ℕ) → n < m → nat_le m n ≡ false
 not_le m n h = not_le_case m n (nat_le m n) refl h
 
@@ -97,9 +106,11 @@ test_case m n m' n' true e f g = sym (le-leb m' n' (f (leb-true m n e)))
 test_case m n m' n' false e f g =
     ⊎_elim (λ (above : n' < m'). sym (not_le m' n' above)) (λ (below : m' ≤ n'). absurd (let le : m ≤ n = g below in omega (arith, leb-false m n e))) (cases_lt n' m')
 
+-- Two tests of size answer alike where each follows from the other.
 pub same_test : (m n m' n' : ℕ) → (m ≤ n → m' ≤ n') → (m' ≤ n' → m ≤ n) → nat_le m n ≡ nat_le m' n'
 same_test m n m' n' f g = test_case m n m' n' (nat_le m n) refl f g
 
+-- A power of ten is more than 0.
 pub power_some : (k : ℕ) → 0 < 10 ^ k
 power_some k = let ten : 0 < 10 = omega arith in omega (arith, one-le-pow k 10 ten)
 
@@ -114,6 +125,7 @@ within_far (suc digits) up far =
     let apart : suc digits ≢ 0 = λ e. absurd (omega (arith, e)) in
     ne_eqb (suc digits) 0 apart ∙ sym (not_le (suc digits * 10 ^ up) (10 ^ 6) above)
 
+-- A number times 10^up is at most 10^6 exactly where the number is at most 10 to the power of 6 less up.
 pub within_up : (digits up k : ℕ) → up + k ≡ 6 → nat_le digits (10 ^ k) ≡ nat_le (digits * 10 ^ up) (10 ^ 6)
 within_up digits up k e =
     let power : 10 ^ 6 ≡ 10 ^ up * 10 ^ k = ap (λ (j : ℕ). 10 ^ j) (sym e) ∙ pow-add 10 up k in
@@ -121,9 +133,11 @@ within_up digits up k e =
     (λ (le : digits ≤ 10 ^ k). omega (arith, mul-le-mul_right (10 ^ up) le, power))
     (λ (le : digits * 10 ^ up ≤ 10 ^ 6). le_of_mul-le-mul_right (let l : digits * 10 ^ up ≤ 10 ^ k * 10 ^ up = omega (arith, le, power) in l) (power_some up))
 
+-- For an exponent below 0, the limit 10^6 times its power of ten is one power of ten.
 pub within_down : (digits down k : ℕ) → 6 + down ≡ k → nat_le digits (10 ^ k) ≡ nat_le digits (10 ^ 6 * 10 ^ down)
 within_down digits down k e = ap (λ (n : ℕ). nat_le digits n) (ap (λ (j : ℕ). 10 ^ j) (sym e) ∙ pow-add 10 6 down)
 
+-- A number below 10^36 is within 10^6 times any power of ten past 29.
 pub within_low : (digits down : ℕ) → 29 < down → digits < 10 ^ 36 → true ≡ nat_le digits (10 ^ 6 * 10 ^ down)
 within_low digits down low few =
     let ten : 0 < 10 = omega arith in
@@ -135,14 +149,17 @@ pub far_is : (digits : ℕ) (e : ℤ) → pos 6 <ℤ e → (digits == 0) ≡ is_
 far_is digits (pos up) far = within_far digits up (omega (arith, ints))
 far_is digits (negsuc down) far = absurd (omega (arith, ints))
 
+-- A decimal of fewer than 37 digits is within the limit where its exponent is below -29.
 pub low_is : (digits : ℕ) (e : ℤ) → digits < 10 ^ 36 → e <ℤ negsuc 28 → true ≡ is_within (10 ^ 6) digits e
 low_is digits (pos up) few low = absurd (omega (arith, ints))
 low_is digits (negsuc down) few low = within_low digits (suc down) (omega (arith, ints)) few
 
+-- A decimal is within the limit exactly where its digits are at most ten to the power of 6 less its exponent.
 pub mid_is : (digits : ℕ) (e : ℤ) (k : ℕ) → pos k ≡ (pos 6 -ℤ e) → nat_le digits (10 ^ k) ≡ is_within (10 ^ 6) digits e
 mid_is digits (pos up) k is = within_up digits up k (omega (arith, ints))
 mid_is digits (negsuc down) k is = within_down digits (suc down) k (omega (arith, ints))
 
+-- The powers of ten up to 10^36 fit in 128 bits.
 pub power_small : (k : ℕ) → k ≤ 36 → 10 ^ k < 2 ^ 128
 power_small k le = let ten : 0 < 10 = omega arith in let h : 10 ^ k ≤ 10 ^ 36 = pow-le-pow_right ten le in omega (arith, h)
 
@@ -150,6 +167,7 @@ power_small k le = let ten : 0 < 10 = omega arith in let h : 10 ^ k ≤ 10 ^ 36 
 power_sum : (i j k : ℕ) → i + j ≡ k → 10 ^ k ≡ 10 ^ i * 10 ^ j
 power_sum i j k e = ap (λ (n : ℕ). 10 ^ n) (sym e) ∙ pow-add 10 i j
 
+-- A decimal within 10^6 is within 10^18 units of 10^-12.
 pub within_units : (digits : ℕ) (e s : ℤ) → s ≡ (e +ℤ pos 12) → IsWithin (10 ^ 6) digits e → IsWithin (10 ^ 18) digits s
 within_units digits (pos up) (pos k) is within = omega (arith, within, ap (λ (t : ℕ). digits * t) (power_sum up 12 k (omega (arith, ints))))
 within_units digits (pos up) (negsuc k) is within = absurd (omega (arith, ints))
@@ -165,6 +183,7 @@ past_all x k far few = let ten : 0 < 10 = omega arith in let le : 36 ≤ k = ome
 small_quotient : (x n : ℕ) → x < n → (x / n ≡ 0) × (div_ceil x n ≡ min 1 x)
 small_quotient x n few = (div-eq_of_lt few, ap₂ (λ (q r : ℕ). q + min 1 r) (div-eq_of_lt few) (mod-eq_of_lt few) ∙ zero-add (min 1 x))
 
+-- To divide fewer than 37 digits by a power of ten past 10^36 gives the same as to divide by 10^36.
 pub divide_capped : (x k : ℕ) → x < 10 ^ 36 → (x / 10 ^ min k 36 ≡ x / 10 ^ k) × (div_ceil x (10 ^ min k 36) ≡ div_ceil x (10 ^ k))
 divide_capped x k few = ⊎_elim
     (λ (far : 36 < k).
@@ -175,10 +194,12 @@ divide_capped x k few = ⊎_elim
     (λ (near : k ≤ 36). let same : min k 36 ≡ k = omega arith in (ap (λ (j : ℕ). x / 10 ^ j) same, ap (λ (j : ℕ). div_ceil x (10 ^ j)) same))
     (cases_lt 36 k)
 
+-- The quotient of the code is the magnitude in units, rounded down.
 pub divided_below : (x : ℕ) (scale : ℤ) (d : ℕ) → x < 10 ^ 36 → scale <ℤ pos 0 → d ≡ 10 ^ min (unsigned_abs scale) 36 → x / d ≡ magnitude_below x scale
 divided_below x (pos up) d few low is = absurd (omega (arith, ints))
 divided_below x (negsuc down) d few low is = ap (λ (n : ℕ). x / n) is ∙ (divide_capped x (suc down) few).0
 
+-- The quotient of the code, rounded up, is the magnitude in units, rounded up.
 pub divided_above : (x : ℕ) (scale : ℤ) (d : ℕ) → x < 10 ^ 36 → scale <ℤ pos 0 → d ≡ 10 ^ min (unsigned_abs scale) 36 → div_ceil x d ≡ magnitude_above x scale
 divided_above x (pos up) d few low is = absurd (omega (arith, ints))
 divided_above x (negsuc down) d few low is = ap (λ (n : ℕ). div_ceil x n) is ∙ (divide_capped x (suc down) few).1
@@ -188,13 +209,16 @@ pub scaled_value : (x : ℕ) (scale : ℤ) (k : ℕ) → pos k ≡ scale → (x 
 scaled_value x (pos up) k is = let same : k ≡ up = omega (arith, ints) in (ap (λ (j : ℕ). x * 10 ^ j) same, ap (λ (j : ℕ). x * 10 ^ j) same)
 scaled_value x (negsuc down) k is = absurd (omega (arith, ints))
 
+-- Scaled up, a magnitude within the limit is at most 10^18 units.
 pub scaled_small : (x : ℕ) (scale : ℤ) (k : ℕ) → pos k ≡ scale → IsWithin (10 ^ 18) x scale → x * 10 ^ k ≤ 10 ^ 18
 scaled_small x (pos up) k is within = let same : k ≡ up = omega (arith, ints) in rw same within
 scaled_small x (negsuc down) k is within = absurd (omega (arith, ints))
 
+-- The power that a number other than 0 is scaled by is at most 10^18, as the product is.
 pub power_within : (x k : ℕ) → 0 < x → x * 10 ^ k ≤ 10 ^ 18 → 10 ^ k ≤ 10 ^ 18
 power_within x k some within = let h : 1 * 10 ^ k ≤ x * 10 ^ k = mul-le-mul_right (10 ^ k) (let l : 1 ≤ x = omega arith in l) in omega (arith, h)
 
+-- The digits 0 stay 0 at each scale.
 pub zero_scaled : (scale : ℤ) → pos 0 ≤ℤ scale → (0 ≡ magnitude_below 0 scale) × (0 ≡ magnitude_above 0 scale)
 zero_scaled (pos up) h = (sym (zero-mul (10 ^ up)), sym (zero-mul (10 ^ up)))
 zero_scaled (negsuc down) h = absurd (omega (arith, ints))
@@ -220,6 +244,7 @@ positive_interval digits s lo hi lo_is hi_is within =
       hi_limited = omega (arith, ints, small);
     }
 
+-- Turned round and negated, the ends of a magnitude are those of an interval.
 pub negative_interval : (digits : ℕ) (s lo hi : ℤ) → lo ≡ pos (magnitude_below digits s) → hi ≡ pos (magnitude_above digits s) → IsWithin (10 ^ 18) digits s → IsInterval (read (pos 0 -ℤ read hi)) (read (pos 0 -ℤ read lo))
 negative_interval digits s lo hi lo_is hi_is within =
     let small = below_small digits s within in
@@ -230,9 +255,11 @@ negative_interval digits s lo hi lo_is hi_is within =
     }
 
 -- ---- the digits of a decimal
+-- At most 36 digits before the point are below 10^36.
 pub whole_room : (w : ℕ) → w ≤ 36 → (0 + 1) * 10 ^ w ≤ 10 ^ 36
 whole_room w few = let ten : 0 < 10 = omega arith in let h : 10 ^ w ≤ 10 ^ 36 = pow-le-pow_right ten few in omega (arith, h)
 
+-- The digits behind the point stay below 10^36 with those before it, where they are at most 36 together.
 pub fraction_room : (r w f : ℕ) → r + 1 ≤ (0 + 1) * 10 ^ w → w + f ≤ 36 → (r + 1) * 10 ^ f ≤ 10 ^ 36
 fraction_room r w f small few =
     let ten : 0 < 10 = omega arith in
@@ -240,6 +267,7 @@ fraction_room r w f small few =
     let g = mul-le-mul_right (10 ^ f) small in
     omega (arith, h, g, pow-add 10 w f)
 
+-- More than 36 digits are refused.
 pub many_digits : (negative : Bool) (w f : List ℕ) (e : ℤ) → 36 < length w + length f → Err TooManyDigits ≡ number_of negative w f e
 many_digits negative w f e many =
     let long : 36 < length (w ++ f) = omega (arith, length-append w f) in
@@ -251,9 +279,11 @@ number_case negative false true u w f e s_is t_is u_is far = rw (← s_is, ← t
 number_case negative false false true w f e s_is t_is u_is far = rw (← s_is, ← t_is, ← u_is) refl
 number_case negative false false false w f e s_is t_is u_is far = absurd (cc)
 
+-- An exponent below -99 or above 99 is refused.
 pub far_exponent : (negative : Bool) (w f : List ℕ) (e : ℤ) → (int_lt e (negsuc 98) || int_lt (pos 99) e) ≡ true → Err TooManyDigits ≡ number_of negative w f e
 far_exponent negative w f e far = number_case negative (nat_lt 36 (length (w ++ f))) (int_lt e (negsuc 98)) (int_lt (pos 99) e) w f e refl refl refl far
 
+-- A decimal of few digits and a near exponent is what the code makes of its digits and its scale.
 pub number_is : (negative : Bool) (w f : List ℕ) (e s : ℤ) (d : ℕ) → length w + length f ≤ 36 → int_lt e (negsuc 98) ≡ false → int_lt (pos 99) e ≡ false
     → d ≡ digits_value_after 10 (digits_value_after 10 0 w) f → s ≡ (e -ℤ pos (length f)) → scaled_of negative d s ≡ number_of negative w f e
 number_is negative w f e s d few low high digits_are scale_is =
@@ -279,6 +309,7 @@ unsigned_reads u m w f e negative m_is w_is f_is w_digits f_digits some e_is =
     let mantissa : is_mantissa w f ≡ true = ap₂ (λ (a b : Bool). a && b) all long in
     sym (unsigned_as negative u w f e w_same f_same mantissa e_is)
 
+-- A text, parted at its sign, its mark and its point, reads as the number of these parts.
 pub reads_as : (text u m w f : List ℕ) (e : ℤ) (negative : Bool) → negative ≡ starts_with_minus text → u ≡ without_leading_sign text → m ≡ before_first is_mark u → w ≡ before_first is_point m → f ≡ after_first is_point m
     → are_digits w ≡ true → are_digits f ≡ true → 0 < length w + length f → Some e ≡ exponent_part u → number_of negative w f e ≡ decimal_of text
 reads_as text u m w f e negative negative_is u_is m_is w_is f_is w_digits f_digits some e_is =
