@@ -2,7 +2,7 @@ use Rattle.std.proofs.Common.{map}
 use Rattle.std.specs.String.{string_bytes}
 use Rattle.std.proofs.lemmas.Result.{err_from_is_err_and}
 use Rattle.clap.specs.Words.{found_of}
-use Rattle.psa_words.proofs.Answered.{all_texts, refused_answer, taken_answer}
+use Rattle.psa_words.proofs.SettingsAnswerLemmas.{all_texts, refused_answer, taken_answer}
 use Rattle.psa_words.proofs.read_words.Goals as goal
 
 pub returns-in_err-matches : goal.returns-in_err-matches

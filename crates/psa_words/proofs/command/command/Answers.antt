@@ -1,7 +1,7 @@
 use Rattle.std.proofs.Common.{◌∙◌, ap₂}
 use Rattle.std.proofs.lemmas.Result.{IfOk-weaker}
 use Rattle.clap.specs.Words.{with_rule}
-use Rattle.psa_words.proofs.Scrams.{scram_made}
+use Rattle.psa_words.proofs.SimpleCommandLemmas.{scram_made}
 use Rattle.psa_words.proofs.command.command.Goals as goal
 
 pub returns : goal.returns

@@ -4,7 +4,7 @@ use Rattle.clap.specs.Words.{found_of}
 use Rattle.psa_words.specs.declared.limits.TheConstants.{DEFAULT_LIMIT_ORDER, MAX_LIMIT_ORDER, MAX_NODE_LIMIT}
 use Rattle.psa_words.specs.Given.{Given, decimal_that, default_mission, has_conflict, is_fraction, is_not_below_zero, optional_value, value_or, whole_between}
 use Rattle.psa_words.specs.Found.{all_names, given_in}
-use Rattle.psa_words.proofs.Steps.{same_source, same_text, cut_of, excluded, limit_of, mission_of, nodes_of, settings_made, source_of, stops_at_cut, stops_at_input, stops_at_limit, stops_at_mission, stops_at_nodes}
+use Rattle.psa_words.proofs.SettingsStepLemmas.{same_source, same_text, cut_of, excluded, limit_of, mission_of, nodes_of, settings_made, source_of, stops_at_cut, stops_at_input, stops_at_limit, stops_at_mission, stops_at_nodes}
 use Rattle.psa_words.proofs.settings.settings.Goals as goal
 
 pub returns-then-has_conflict : goal.returns-then-has_conflict

@@ -1,6 +1,6 @@
 use Rattle.std.proofs.Common.{ℕ, ℤ, ◌≡◌, ◌≤◌, ◌-ℤ◌, pos, unsigned_abs, to_z, of_z, w16, arith}
 use Rattle.std.proofs.lemmas.Int.{ints}
-use Rattle.psa_words.proofs.Numbers.{one_far, one_low, one_mid, power_small}
+use Rattle.psa_words.proofs.OptionValueLemmas.{one_far, one_low, one_mid, power_small}
 use Rattle.psa_words.proofs.values.is_at_most_one.Goals as goal
 
 -- how far the exponent is below 0, as the code casts it

@@ -1,6 +1,6 @@
 use Rattle.std.proofs.Common.{◌<◌, length, get_or, arith}
 use Rattle.psa_number.proofs.DigitLemmas.{read_none, read_next, digit_at, digit_of}
-use Rattle.psa_words.proofs.Numbers.{digits_room}
+use Rattle.psa_words.proofs.OptionValueLemmas.{digits_room}
 use Rattle.psa_words.proofs.values.value_of_digits.Goals as goal
 
 pub loop-digit-init : goal.loop-digit-init

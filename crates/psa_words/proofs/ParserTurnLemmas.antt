@@ -10,28 +10,33 @@ use Rattle.clap.specs.declared.error.kind.ErrorKind.{ErrorKind}
 use Rattle.clap.specs.Faults.{flags_fault, option_fault, step_fault, repeat_fault, settle_fault, turn_fault, use_fault, walk_fault, word_fault}
 use Rattle.clap.specs.Kinds.{Kinds, or_else}
 use Rattle.clap.specs.declared.error.kind.ErrorKind.TheVariants as kind
-use Rattle.psa_words.proofs.Firsts.{IsFirst}
+use Rattle.psa_words.proofs.FirstCharacterLemmas.{IsFirst}
 use Rattle.psa_words.specs.Reading.{value_behind, Text, Table, Item, flag, valued, file}
-use Rattle.psa_words.proofs.Looks.{two_hyphens, value_behind_is}
+use Rattle.psa_words.proofs.WordLookLemmas.{two_hyphens, value_behind_is}
 
 -- ---- lists of kinds
 
+-- A list of kinds, or else none, is the list.
 pub or_nothing : (k : Kinds) → or_else k [] ≡ k
 or_nothing [] = refl
 or_nothing (x ∷ xs) = refl
 
+-- A choice of the first list of kinds that is not empty may be bracketed either way.
 pub or_else_assoc : (a b c : Kinds) → or_else (or_else a b) c ≡ or_else a (or_else b c)
 or_else_assoc [] b c = refl
 or_else_assoc (x ∷ xs) b c = refl
 
 -- ---- where the walk stands
 
+-- the argument whose values are being collected, by its name, and its values so far
 abbrev pub Pending : Type 0
 Pending = Option (Text × List Text)
 
+-- what the walk holds: its rows, and what is pending
 abbrev pub holding : List Row → Pending → Held
 holding rows pending = record { rows = rows; pending = pending; skip = 0 }
 
+-- the walk between two words, over the rows and with what is pending; `over` where `--` came before
 abbrev pub at : List Row → Pending → Waiting → Bool → Walk
 at rows pending waiting over =
     record { held = holding rows pending; waiting = waiting; position = 1; is_trailing = over; stopped = None }
@@ -43,6 +48,7 @@ settling s rows pending = settle_fault s.rules s.args_override_self (holding row
 unfoldable pub faults : Shape → Walk → List Text → Kinds
 faults s w words = or_else (walk_fault s [] w words) (settle_fault s.rules s.args_override_self (fold (walked s.rules []) w words).held)
 
+-- the rows where the words end, with what is pending settled
 unfoldable pub end_rows : Shape → Walk → List Text → List Row
 end_rows s w words = (settled s.rules (fold (walked s.rules []) w words).held).rows
 
@@ -53,28 +59,34 @@ abbrev pub Agrees : Option (List Row) → Kinds → List Row → Type 0
 Agrees None kinds rows = kinds ≡ [] → ⊥
 Agrees (Some taken) kinds rows = (kinds ≡ []) × (rows ≡ taken)
 
+-- the rows of what follows, unless the item is refused
 abbrev pub taken_next : Kinds → Option (List Row) → Option (List Row)
 taken_next [] rest = rest
 taken_next (k ∷ ks) rest = None
 
+-- the kinds that an item is refused with: an option that was given before
 abbrev pub item_fault : {O : Type 0} → (O → Rule) → Item O → List Row → Kinds
 item_fault rule (flag o) rows = repeat_fault false (rule o).id rows
 item_fault rule (valued o text) rows = repeat_fault false (rule o).id rows
 item_fault rule (file text) rows = []
 
+-- the rows after one item more
 abbrev pub item_rows : {O : Type 0} → (O → Rule) → Rule → Item O → List Row → List Row
 item_rows rule f (flag o) rows = used (rule o) [] rows
 item_rows rule f (valued o text) rows = used (rule o) (text ∷ []) rows
 item_rows rule f (file text) rows = used f (text ∷ []) rows
 
+-- the rows after all items, or None where one of them is refused
 unfoldable pub taken : {O : Type 0} → (O → Rule) → Rule → List Row → List (Item O) → Option (List Row)
 taken rule f rows [] = Some rows
 taken rule f rows (item ∷ items) = taken_next (item_fault rule item rows) (taken rule f (item_rows rule f item rows) items)
 
+-- the rows of a reading, or None where the words have none or one of its items is refused
 abbrev pub judged : {O : Type 0} → (O → Rule) → Rule → List Row → Option (List (Item O)) → Option (List Row)
 judged rule f rows None = None
 judged rule f rows (Some items) = taken rule f rows items
 
+-- Where the rest of a reading agrees with the parser, so does the reading with an item before it.
 pub agrees_next : (k : Kinds) (m : Option (List Row)) (kinds : Kinds) (rows : List Row) → Agrees m kinds rows → Agrees (taken_next k m) (or_else k kinds) rows
 agrees_next [] m kinds rows h = h
 agrees_next (x ∷ xs) m kinds rows h = λ e. absurd (cc)
@@ -83,6 +95,7 @@ taken_none : (k : Kinds) → taken_next k None ≡ None
 taken_none [] = refl
 taken_none (x ∷ xs) = refl
 
+-- The rows of a reading that begins with an item are those of the rest, after the item.
 pub judged_item : {O : Type 0} (rule : O → Rule) (f : Rule) (rows : List Row) (item : Item O) (r : Option (List (Item O)))
     → judged rule f rows (option_map (λ items. item ∷ items) r) ≡ taken_next (item_fault rule item rows) (judged rule f (item_rows rule f item rows) r)
 unfolding taken
@@ -91,6 +104,7 @@ judged_item rule f rows item (Some items) = refl
 
 -- ---- one turn
 
+-- the arguments of a command are those of a table of options, and one that takes any number of files
 pub record Fits {O : Type 0} (t : Table O) (s : Shape) (rule : O → Rule) (f : Rule) : Type 0 where
   pub long_is : (name : Text) → arg_by_long s.rules name ≡ option_map rule (t.long_name name)
   pub short_is : (c : ℕ) → arg_by_short s.rules c ≡ option_map rule (t.short_name c)
@@ -110,12 +124,14 @@ pub record Fits {O : Type 0} (t : Table O) (s : Shape) (rule : O → Rule) (f : 
   pub file_trailing : f.trailing_var_arg ≡ false
   pub file_use : (text : Text) (rows : List Row) → use_fault s.args_override_self f (text ∷ []) rows ≡ []
 
+-- What is wrong with a list of words is what is wrong with the first one, or else with the rest.
 pub fault_step : (s : Shape) (w : Walk) (word : Text) (words : List Text)
     → faults s w (word ∷ words) ≡ or_else (turn_fault s [] w word) (faults s (walked s.rules [] w word) words)
 unfolding faults walk_fault
 fault_step s w word words =
     or_else_assoc (turn_fault s [] w word) (walk_fault s [] (walked s.rules [] w word) words) (settle_fault s.rules s.args_override_self (fold (walked s.rules []) w (word ∷ words)).held)
 
+-- The rows at the end are those of the rest of the words, after the first one.
 pub end_step : (s : Shape) (w : Walk) (word : Text) (words : List Text) → end_rows s w (word ∷ words) ≡ end_rows s (walked s.rules [] w word) words
 unfolding end_rows
 end_step s w word words = refl
@@ -125,22 +141,26 @@ pub record Turn (s : Shape) (w : Walk) (word : Text) (after : Walk) (kinds : Kin
   pub walks : walked s.rules [] w word ≡ after
   pub fault : turn_fault s [] w word ≡ kinds
 
+-- What agrees for the rest of the words agrees with the first word before them.
 pub goes : (s : Shape) (w after : Walk) (word : Text) (words : List Text) (k : Kinds) (m : Option (List Row))
     → Turn s w word after k
     → Agrees m (or_else k (faults s after words)) (end_rows s after words)
     → Agrees m (faults s w (word ∷ words)) (end_rows s w (word ∷ words))
 goes s w after word words k m turn a = rw (fault_step s w word words, end_step s w word words, turn.fault, turn.walks) a
 
+-- Where a word has a fault, the words are not without fault.
 pub stops : (s : Shape) (w : Walk) (word : Text) (words : List Text) (x : ErrorKind) (xs : Kinds)
     → turn_fault s [] w word ≡ x ∷ xs → faults s w (word ∷ words) ≡ [] → ⊥
 stops s w word words x xs h e =
     let f : or_else (x ∷ xs) (faults s (walked s.rules [] w word) words) ≡ [] = rw (fault_step s w word words, h) at e in absurd (cc)
 
+-- No word is a subcommand, as the command has none.
 pub no_sub : (waiting : Waiting) (word : Text) → subcommand_met [] waiting word ≡ None
 no_sub idle word = refl
 no_sub (option id) word = refl
 no_sub positional word = refl
 
+-- A turn, from what the word is met as and what is wrong with it.
 pub turn_from : (s : Shape) (rows : List Row) (pending : Pending) (waiting : Waiting) (over : Bool) (word : Text) (h : Held) (step : Step) (k : Kinds)
     → word_met s.rules [] over waiting 1 word (holding rows pending) ≡ (h, step) → word_fault s [] over waiting word (holding rows pending) ≡ k
     → Turn s (at rows pending waiting over) word (after_step s.rules word (at rows pending waiting over) h step) (or_else k (step_fault s 1 h step))
@@ -159,6 +179,7 @@ pub turn_dashes : (s : Shape) (rows : List Row) (pending : Pending) (waiting : W
 turn_dashes s rows pending waiting word e =
     turn_from s rows pending waiting false word (holding rows pending) (trailing 1) [] (rw (no_sub waiting word, e) refl) (rw (no_sub waiting word, e) refl)
 
+-- A test, or false, is the test.
 pub or_false : (b : Bool) → (b || false) ≡ b
 or_false true = refl
 or_false false = refl
@@ -186,6 +207,7 @@ pub record Means (s : Shape) (rows : List Row) (pending : Pending) (waiting : Wa
       ≡ after_flag s.rules waiting word (option_met s.rules a v (holding rows pending)).0 (option_met s.rules a v (holding rows pending)).1
   pub fault : word_fault s [] false waiting word (holding rows pending) ≡ option_fault s.rules s.args_override_self a v (holding rows pending)
 
+-- The turn of an option that has its value in the same word.
 pub turn_valued : {O : Type 0} (t : Table O) (s : Shape) (rule : O → Rule) (f : Rule) → Fits t s rule f
     → (rows : List Row) (pending : Pending) (waiting : Waiting) (word : Text) (o : O) (text : Text) → t.takes_value o ≡ true
     → Means s rows pending waiting word (rule o) (Some text)
@@ -196,6 +218,7 @@ turn_valued t s rule f fits rows pending waiting word o text takes means =
     (or_nothing _ ∙ ap (or_else (settling s rows pending)) (fits.value_use o takes text (settled_rows s.rules pending rows)))
     (turn_from s rows pending waiting false word (holding (used (rule o) (text ∷ []) (settled_rows s.rules pending rows)) None) (next idle) _ means.met means.fault)
 
+-- The turn of an option that waits for its value in the next word.
 pub turn_waits : {O : Type 0} (t : Table O) (s : Shape) (rule : O → Rule) (f : Rule) → Fits t s rule f
     → (rows : List Row) (pending : Pending) (waiting : Waiting) (word : Text) (o : O)
     → Means s rows pending waiting word (rule o) None
@@ -205,6 +228,7 @@ turn_waits t s rule f fits rows pending waiting word o means =
     (or_nothing _)
     (turn_from s rows pending waiting false word (holding (settled_rows s.rules pending rows) (Some ((rule o).id, []))) (next (option (rule o).id)) _ means.met means.fault)
 
+-- A word with two hyphens and the name of an option that takes a value is this option.
 pub long_means : {O : Type 0} (t : Table O) (s : Shape) (rule : O → Rule) (f : Rule) → Fits t s rule f
     → (rows : List Row) (pending : Pending) (waiting : Waiting) (word name : Text) (v : Option Text) (o : O) → t.takes_value o ≡ true
     → bytes_eq word two_hyphens ≡ false → long_of word ≡ Some (name, v) → t.long_name name ≡ Some o
@@ -217,6 +241,7 @@ long_means t s rule f fits rows pending waiting word name v o takes is_word is_l
       fault = rw (no_sub waiting word, is_word, is_long, found, takes_values_is) refl;
     }
 
+-- The turn of a flag.
 pub turn_flag : {O : Type 0} (t : Table O) (s : Shape) (rule : O → Rule) (f : Rule) → Fits t s rule f
     → (rows : List Row) (pending : Pending) (waiting : Waiting) (word name : Text) (o : O) → t.takes_value o ≡ false
     → bytes_eq word two_hyphens ≡ false → long_of word ≡ Some (name, None) → t.long_name name ≡ Some o
@@ -237,6 +262,7 @@ pub word_stops : (s : Shape) (rows : List Row) (pending : Pending) (waiting : Wa
 word_stops s rows pending waiting word words x xs e =
     stops s (at rows pending waiting false) word words x xs (rw e refl)
 
+-- A word with two hyphens and a name that no option has is refused.
 pub long_unknown : {O : Type 0} (t : Table O) (s : Shape) (rule : O → Rule) (f : Rule) → Fits t s rule f
     → (rows : List Row) (pending : Pending) (waiting : Waiting) (word name : Text) (v : Option Text)
     → bytes_eq word two_hyphens ≡ false → long_of word ≡ Some (name, v) → t.long_name name ≡ None
@@ -245,6 +271,7 @@ long_unknown t s rule f fits rows pending waiting word name v is_word is_long kn
     let found : arg_by_long s.rules name ≡ None = fits.long_is name ∙ ap (option_map rule) known in
     rw (no_sub waiting word, is_word, is_long, found) refl
 
+-- A flag with a value in its word is refused.
 pub flag_with_value : {O : Type 0} (t : Table O) (s : Shape) (rule : O → Rule) (f : Rule) → Fits t s rule f
     → (rows : List Row) (pending : Pending) (waiting : Waiting) (word name text : Text) (o : O) → t.takes_value o ≡ false
     → bytes_eq word two_hyphens ≡ false → long_of word ≡ Some (name, Some text) → t.long_name name ≡ Some o
@@ -266,6 +293,7 @@ short_option t s rule f fits rows pending waiting word b rest a x is_word is_lon
   fault = rw (no_sub waiting word, is_word, is_long, is_short, is_first, found, takes, dropped, value_behind_is rest) refl;
 }
 
+-- A word with one hyphen and the letter of an option is this option, with what stands behind the letter.
 pub short_means : {O : Type 0} (t : Table O) (s : Shape) (rule : O → Rule) (f : Rule) → Fits t s rule f
     → (rows : List Row) (pending : Pending) (waiting : Waiting) (word : Text) (b : ℕ) (rest : Text) (o : O)
     → bytes_eq word two_hyphens ≡ false → long_of word ≡ None → short_of word ≡ Some (b ∷ rest) → (x : ℕ) → IsFirst b rest x → t.short_name b ≡ Some o
@@ -287,6 +315,7 @@ unfolding flags_fault
 short_refused t s rule f fits rows pending waiting word b rest x is_word is_long is_short is_first found =
     rw (no_sub waiting word, is_word, is_long, is_short, is_first, found) refl
 
+-- A word with one hyphen and a letter that no option has is refused.
 pub short_unknown : {O : Type 0} (t : Table O) (s : Shape) (rule : O → Rule) (f : Rule) → Fits t s rule f
     → (rows : List Row) (pending : Pending) (waiting : Waiting) (word : Text) (b : ℕ) (rest : Text)
     → bytes_eq word two_hyphens ≡ false → long_of word ≡ None → short_of word ≡ Some (b ∷ rest) → (x : ℕ) → IsFirst b rest x → t.short_name b ≡ None

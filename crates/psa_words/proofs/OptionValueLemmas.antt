@@ -1,4 +1,4 @@
--- Whole numbers by their digits, and decimals of at most 1.
+-- How the values of options are tested: whole numbers by their digits, and decimals for being at most 1.
 use Rattle.std.proofs.Common.{◌≡◌, ◌≢◌, ◌∙◌, refl, sym, ℕ, ℤ, zero, suc, pos, negsuc, ◌-ℤ◌, ◌+◌, ◌-◌, ◌*◌, ◌^◌, ◌<◌, ◌≤◌, ◌<ℤ◌, true, List, length, arith, zero-mul}
 use Rattle.std.specs.Prelude.{nat_le, ◌==◌}
 use Rattle.std.proofs.lemmas.Bool.{le-leb, lt-leb, ne_eqb}
@@ -27,10 +27,12 @@ one_up (suc digits) up far =
     let apart : suc digits ≢ 0 = λ e. absurd (omega (arith, e)) in
     ne_eqb (suc digits) 0 apart ∙ sym (lt-leb (suc digits * 10 ^ up) 1 above)
 
+-- A decimal with a positive exponent is at most 1 exactly where its digits are 0.
 pub one_far : (digits : ℕ) (e : ℤ) → pos 0 <ℤ e → (digits == 0) ≡ is_within 1 digits e
 one_far digits (pos up) far = one_up digits up (omega (arith, ints))
 one_far digits (negsuc down) far = absurd (omega (arith, ints))
 
+-- A decimal of fewer than 37 digits is at most 1 where its exponent is below -36.
 pub one_low : (digits : ℕ) (e : ℤ) → digits < 10 ^ 36 → e <ℤ negsuc 35 → true ≡ is_within 1 digits e
 one_low digits (pos up) few low = absurd (omega (arith, ints))
 one_low digits (negsuc down) few low =
@@ -39,6 +41,7 @@ one_low digits (negsuc down) few low =
     let h1 : 10 ^ 36 ≤ 10 ^ suc down = pow-le-pow_right some far in
     sym (le-leb digits (1 * 10 ^ suc down) (omega (arith, h1)))
 
+-- A decimal is at most 1 exactly where its digits are at most ten to the power of its negated exponent.
 pub one_mid : (digits : ℕ) (e : ℤ) (k : ℕ) → pos k ≡ (pos 0 -ℤ e) → nat_le digits (10 ^ k) ≡ is_within 1 digits e
 one_mid digits (pos up) k is =
     let none : up ≡ 0 = omega (arith, ints) in let same : k ≡ 0 = omega (arith, ints) in
@@ -47,5 +50,6 @@ one_mid digits (negsuc down) k is =
     let same : k ≡ suc down = omega (arith, ints) in
     let both : 1 * 10 ^ suc down ≡ 10 ^ suc down = omega arith in rw (same, both) refl
 
+-- The powers of ten up to 10^36 fit in 128 bits.
 pub power_small : (k : ℕ) → k ≤ 36 → 10 ^ k < 2 ^ 128
 power_small k le = let some : 0 < 10 = omega arith in let h : 10 ^ k ≤ 10 ^ 36 = pow-le-pow_right some le in omega (arith, h)

@@ -16,14 +16,15 @@ use Rattle.clap.specs.declared.error.kind.ErrorKind.TheVariants as kind
 use Rattle.psa_words.specs.Reading.{Text, Item, flag, valued, file}
 use Rattle.psa_words.specs.Options.{Setting, name_of, bdd}
 use Rattle.psa_words.specs.Given.{is_same, is_use_of, item_setting, files_in, has_option, has_repeat}
-use Rattle.psa_words.proofs.Turns.{item_fault, item_rows, taken, taken_next}
-use Rattle.psa_words.proofs.Instance.{built_option, built_file}
+use Rattle.psa_words.proofs.ParserTurnLemmas.{item_fault, item_rows, taken, taken_next}
+use Rattle.psa_words.proofs.CommandTableLemmas.{built_option, built_file}
 
 -- ---- texts
 
 tells : (a b : Text) → bytes_eq a b ≡ true → a ≡ b
 tells a b e = (bytes_decides a b).0 e
 
+-- A text has the same bytes as itself.
 pub same : (a : Text) → bytes_eq a a ≡ true
 same a = (bytes_decides a a).1 refl
 
@@ -39,9 +40,11 @@ same_turned a b = elim (cases_Bool (bytes_eq a b)) [
 
 -- ---- rows
 
+-- the first row of an argument, by its name
 abbrev pub row_at : Text → List Row → Option Row
 row_at id rows = find (λ r. bytes_eq r.id id) rows
 
+-- the first value that is there
 abbrev pub or_first : {X : Type 0} → Option X → Option X → Option X
 or_first None y = y
 or_first (Some x) y = Some x
@@ -99,6 +102,7 @@ without_absent id (r ∷ rs) e =
 
 -- ---- one item
 
+-- the row that an item adds where its argument has none
 abbrev pub item_row : Item Setting → Row
 item_row (flag s) = new_row (name_of s) (reading_by (built_option s)) CommandLine (built_option s).missing
 item_row (valued s text) = new_row (name_of s) (reading_by (built_option s)) CommandLine (text ∷ [])
@@ -175,6 +179,7 @@ join None false item r = refl
 join (Some x) true item r = refl
 join (Some x) false item r = refl
 
+-- After all items, an option has the row that it had before, or else that of its first item.
 pub taken_row : (s : Setting) (items : List (Item Setting)) (rows end : List Row) → taken built_option built_file rows items ≡ Some end
     → row_at (name_of s) end ≡ or_first (row_at (name_of s) rows) (option_map item_row (find (is_use_of s) items))
 unfolding taken
@@ -187,6 +192,7 @@ taken_row s (item ∷ items) rows end e =
 
 -- the files
 
+-- the file names in the rows
 abbrev pub files_at : List Row → List Text
 files_at rows = unwrap_or (all_of (codes "file") rows) []
 
@@ -216,6 +222,7 @@ files_step (file text) rows e =
 files_step (flag t) rows e = files_stay t [] rows (free_option t rows e)
 files_step (valued t text) rows e = files_stay t (text ∷ []) rows (free_option t rows e)
 
+-- After all items, the file names are those from before and those of the items, in order.
 pub taken_files : (items : List (Item Setting)) (rows end : List Row) → taken built_option built_file rows items ≡ Some end
     → files_at end ≡ files_at rows ++ files_in items
 unfolding taken
@@ -305,6 +312,7 @@ or_joined : (a b c : Bool) → ((a || b) || c) ≡ (a || (b || c))
 or_joined true b c = refl
 or_joined false b c = refl
 
+-- The items are taken exactly where no option among them is in the rows already or is given twice.
 pub once : (items : List (Item Setting)) (rows : List Row) → is_some (taken built_option built_file rows items) ≡ not (any_taken rows items || has_repeat items)
 unfolding taken
 once [] rows = refl
@@ -324,11 +332,13 @@ none_taken (flag t ∷ items) = none_taken items
 none_taken (valued t text ∷ items) = none_taken items
 none_taken (file text ∷ items) = none_taken items
 
+-- From no rows, the items are taken exactly where no option is given twice.
 pub once_from_none : (items : List (Item Setting)) → is_some (taken built_option built_file [] items) ≡ not (has_repeat items)
 once_from_none items = once items [] ∙ ap (λ (x : Bool). not (x || has_repeat items)) (none_taken items)
 
 -- ---- defaults
 
+-- the row that the first default of an argument gives
 abbrev pub default_row : Text → List Rule → Option Row
 default_row id [] = None
 default_row id (a ∷ rest) =
@@ -365,6 +375,7 @@ default_step id own how (v ∷ vs) rows rest = let some : is_empty (v ∷ vs) �
   ]
 ]
 
+-- With the defaults added, an argument has the row that it had, or else that of its default.
 pub defaults_give : (id : Text) (rules : List Rule) (rows : List Row) → row_at id (fold with_default rows rules) ≡ or_first (row_at id rows) (default_row id rules)
 defaults_give id [] rows = sym (or_none (row_at id rows))
 defaults_give id (a ∷ rest) rows = defaults_give id rest (with_default rows a) ∙ default_step id a.id (reading_by a) a.defaults rows (default_row id rest)

@@ -16,10 +16,10 @@ use Rattle.psa_words.specs.Options.{Setting, name_of, takes_value, options, sett
 use Rattle.psa_words.specs.Given.{given_by, given_of, is_same, is_use_of, item_value, value_in, files_in, has_option, has_repeat}
 use Rattle.psa_words.specs.Found.{given_in, is_command_line, is_given, names_in}
 use Rattle.psa_words.specs.Scram.{scram}
-use Rattle.psa_words.proofs.Turns.{Agrees, at, end_rows, judged, taken}
-use Rattle.psa_words.proofs.Whole.{AllTexts}
-use Rattle.psa_words.proofs.Instance.{built_option, built_file, scram_agrees, scram_rows, top}
-use Rattle.psa_words.proofs.Rows.{default_row, defaults_give, files_at, item_row, once_from_none, or_first, row_at, taken_files, taken_row}
+use Rattle.psa_words.proofs.ParserTurnLemmas.{Agrees, at, end_rows, judged, taken}
+use Rattle.psa_words.proofs.ClapWalkLemmas.{AllTexts}
+use Rattle.psa_words.proofs.CommandTableLemmas.{built_option, built_file, scram_agrees, scram_rows, top}
+use Rattle.psa_words.proofs.OptionRowLemmas.{default_row, defaults_give, files_at, item_row, once_from_none, or_first, row_at, taken_files, taken_row}
 
 -- ---- the getters, by the rows
 

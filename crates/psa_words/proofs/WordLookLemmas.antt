@@ -1,4 +1,4 @@
--- What a word looks like, by the parser's lexical words.
+-- The parser sees each word as the look that the definition gives it: dashes, long, short or plain.
 use Rattle.std.proofs.Common.{◌≡◌, refl, ap, Bool, true, false, [], ◌∷◌, Some, None, cond}
 use Rattle.std.specs.Prelude.{◌==◌}
 use Rattle.std.specs.Str.{bytes_eq}
@@ -7,9 +7,11 @@ use Rattle.clap.specs.Lexer.{long_of, short_of}
 use Rattle.clap.specs.Walk.{attached_value}
 use Rattle.psa_words.specs.Reading.{Text, Look, dashes, long, short, plain, look_of, long_look, value_behind}
 
+-- `--`
 abbrev pub two_hyphens : Text
 two_hyphens = 45 ∷ 45 ∷ []
 
+-- The value attached to a short option is what the definition reads behind its letter.
 pub value_behind_is : (rest : Text) → attached_value rest ≡ value_behind rest
 value_behind_is [] = refl
 value_behind_is (b ∷ bs) = cond_both (b == 61) (Some bs) (Some (b ∷ bs)) (λ v. attached_value (b ∷ bs) ≡ v) (λ e. rw e refl) (λ e. rw e refl)
@@ -21,6 +23,7 @@ IsLook word (long name value) = (bytes_eq word two_hyphens ≡ false) × (long_o
 IsLook word (short byte rest) = (bytes_eq word two_hyphens ≡ false) × (long_of word ≡ None) × (short_of word ≡ Some (byte ∷ rest)) × (word ≡ 45 ∷ (byte ∷ rest))
 IsLook word plain = (bytes_eq word two_hyphens ≡ false) × (long_of word ≡ None) × (short_of word ≡ None)
 
+-- The parser sees each word as the look that the definition gives it.
 pub looks : (word : Text) → IsLook word (look_of word)
 looks [] = (refl, refl, refl)
 looks (a ∷ []) = go (a == 45) refl

@@ -11,9 +11,9 @@ use Rattle.clap.specs.Kinds.{Kinds, or_else}
 use Rattle.clap.specs.declared.error.kind.ErrorKind.{ErrorKind}
 use Rattle.clap.specs.declared.error.kind.ErrorKind.TheVariants as kind
 use Rattle.psa_words.specs.Reading.{items_from_option, items_if_known, items_from_value, items_from_look, Text, Table, Item, flag, valued, file, Look, dashes, long, short, plain, look_of, items_from, between, before_value, after_dashes, value_behind}
-use Rattle.psa_words.proofs.Looks.{IsLook, looks, two_hyphens}
-use Rattle.psa_words.proofs.Firsts.{IsFirst, first_char, after_hyphen}
-use Rattle.psa_words.proofs.Turns.{Agrees, Fits, Means, Pending, Turn, agrees_next, at, no_sub, turn_from, or_else_assoc, end_rows, faults, goes, holding, item_fault, item_rows, judged, judged_item, settling, stops, taken, taken_next, turn_dashes, turn_file, turn_flag, turn_valued, turn_waits, word_stops, long_means, long_unknown, flag_with_value, short_means, short_unknown}
+use Rattle.psa_words.proofs.WordLookLemmas.{IsLook, looks, two_hyphens}
+use Rattle.psa_words.proofs.FirstCharacterLemmas.{IsFirst, first_char, after_hyphen}
+use Rattle.psa_words.proofs.ParserTurnLemmas.{Agrees, Fits, Means, Pending, Turn, agrees_next, at, no_sub, turn_from, or_else_assoc, end_rows, faults, goes, holding, item_fault, item_rows, judged, judged_item, settling, stops, taken, taken_next, turn_dashes, turn_file, turn_flag, turn_valued, turn_waits, word_stops, long_means, long_unknown, flag_with_value, short_means, short_unknown}
 
 -- what the items of a reading come to after what is pending
 abbrev pub after_pending : {O : Type 0} → (O → Rule) → Rule → Shape → List Row → Pending → Option (List (Item O)) → Option (List Row)

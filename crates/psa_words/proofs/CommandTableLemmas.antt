@@ -13,8 +13,8 @@ use Rattle.clap.specs.declared.error.kind.ErrorKind.TheVariants as kind
 use Rattle.psa_words.specs.Reading.{Text, items_from, between}
 use Rattle.psa_words.specs.Options.{Setting, bdd, zbdd, prime_implicants, rare_event, mcub, ccf, validate, limit_order, cut_off, mission_time, node_limit, sample, every_setting, name_of, options}
 use Rattle.psa_words.specs.Scram.{scram, option_rule, file_rule}
-use Rattle.psa_words.proofs.Turns.{Agrees, Fits, at, end_rows, faults, judged, or_false, or_nothing}
-use Rattle.psa_words.proofs.Whole.{AllTexts, words_agree}
+use Rattle.psa_words.proofs.ParserTurnLemmas.{Agrees, Fits, at, end_rows, faults, judged, or_false, or_nothing}
+use Rattle.psa_words.proofs.ClapWalkLemmas.{AllTexts, words_agree}
 
 -- the built command
 unfoldable pub built_option : Setting → Rule
@@ -185,6 +185,7 @@ file_trailing : built_file.trailing_var_arg ≡ false
 unfolding built_file
 file_trailing = refl
 
+-- The arguments of this program's command are those of its table of options, and one for files.
 pub fits : Fits options top built_option built_file
 fits = record {
   long_is = long_is;
@@ -245,10 +246,12 @@ fault_is_level words = leaf_fault (built scram) nothing_held words refl
 scram_faults : (words : List Text) → fault_of scram words ≡ faults top (at [] None idle false) words
 scram_faults words = fault_is_level words ∙ level_is top words quiet_top checked_top
 
+-- The parser's matches are the rows at the end of its walk over the words, with the defaults added.
 pub scram_rows : (words : List Text) → matches_of scram words ≡ fold with_default (end_rows top (at [] None idle false) words) top.rules
 unfolding scram top end_rows
 scram_rows words = refl
 
+-- The parser refuses exactly the words that the definition refuses, and else its rows are those of the items.
 pub scram_agrees : (words : List Text) → AllTexts words
     → Agrees (judged built_option built_file [] (items_from options between words)) (fault_of scram words) (end_rows top (at [] None idle false) words)
 scram_agrees words all = rw (scram_faults words) (words_agree options top built_option built_file fits words all)

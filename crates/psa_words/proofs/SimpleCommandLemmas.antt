@@ -12,9 +12,11 @@ simple_free_scram : is_simple_and_free scram ≡ true
 unfolding scram
 simple_free_scram = refl
 
+-- The command is of the simple form for which the parser's answer is a function of the words.
 pub simple : (a : App) → a ≡ scram → is_simple a ≡ true
 simple a e = ap is_simple e ∙ simple_scram
 
+-- The command is simple, and no argument of it has a rule on another.
 pub simple_free : (a : App) → a ≡ scram → is_simple_and_free a ≡ true
 simple_free a e = ap is_simple_and_free e ∙ simple_free_scram
 
