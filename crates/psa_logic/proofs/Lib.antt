@@ -1,5 +1,5 @@
-pub mod Parts
-pub mod Orders
-pub mod Listings
-pub mod Minimal
-pub mod Literals
+pub mod PartLemmas
+pub mod ReportOrderLemmas
+pub mod ListingLemmas
+pub mod MinimalPartLemmas
+pub mod LiteralLemmas

@@ -6,10 +6,10 @@ use Rattle.std.proofs.lemmas.Bool.Decides.{eqb_tells}
 use Rattle.std.specs.List.{filter}
 use Rattle.psa_logic.specs.Sets.{Has, is_part, is_ascending, all_above, occurs}
 use Rattle.psa_logic.specs.Products.{IsMinimal, IsMinimalCutSet, IsCutProduct, positive_product, rank_of}
-use Rattle.psa_logic.proofs.Listings.{has-map_from}
-use Rattle.psa_logic.proofs.Minimal.{some_part}
-use Rattle.psa_logic.proofs.Orders.{before-total, before-not_self}
-use Rattle.psa_logic.proofs.Parts.{part-cons, part-skip, part-length}
+use Rattle.psa_logic.proofs.ListingLemmas.{has-map_from}
+use Rattle.psa_logic.proofs.MinimalPartLemmas.{some_part}
+use Rattle.psa_logic.proofs.ReportOrderLemmas.{before-total, before-not_self}
+use Rattle.psa_logic.proofs.PartLemmas.{part-cons, part-skip, part-length}
 use Rattle.psa_model.proofs.Existence.{IsBelow}
 
 -- sets that agree on the ranks below the width give the same truth

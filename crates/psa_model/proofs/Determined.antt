@@ -4,7 +4,7 @@ use Rattle.std.proofs.lemmas.List.{append_assoc, append-nil}
 use Rattle.std.proofs.lemmas.Bool.{cases_Bool}
 use Rattle.std.specs.List.{filter}
 use Rattle.psa_model.specs.declared.targets.Target.{Target}
-use Rattle.psa_logic.proofs.Listings.{listing-only}
+use Rattle.psa_logic.proofs.ListingLemmas.{listing-only}
 use Rattle.psa_model.specs.Report.{Analysis, IsSection, AreSections, IsReport, IsProductOf, section_text, is_kept_in, head_text}
 use Rattle.psa_model.specs.Report.AreSections.{no_section, and_section}
 use Rattle.psa_model.specs.Report.IsReport.{validated, written}

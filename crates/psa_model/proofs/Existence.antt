@@ -5,9 +5,9 @@ use Rattle.std.proofs.lemmas.Bool.{false≢true, and_parts, and_from, lt-ltb}
 use Rattle.std.proofs.lemmas.Bool.Decides.{eqb_tells}
 use Rattle.psa_logic.specs.Sets.{Has, is_part, is_ascending, all_above}
 use Rattle.psa_logic.specs.Products.{is_before, is_before_all, is_in_order, IsListing}
-use Rattle.psa_logic.proofs.Listings.{before_all-from, before_all-each, has-map, has-append_left, has-append_right}
-use Rattle.psa_logic.proofs.Orders.{before-total, before-trans}
-use Rattle.psa_logic.proofs.Parts.{part-nil, part-from_has, all_above-lower}
+use Rattle.psa_logic.proofs.ListingLemmas.{before_all-from, before_all-each, has-map, has-append_left, has-append_right}
+use Rattle.psa_logic.proofs.ReportOrderLemmas.{before-total, before-trans}
+use Rattle.psa_logic.proofs.PartLemmas.{part-nil, part-from_has, all_above-lower}
 
 -- one more product at its place in report order
 record Inserted (one : List ℕ) (products : List (List ℕ)) : Type 0 where

@@ -6,9 +6,9 @@ use Rattle.std.proofs.lemmas.Bool.Decides.{eqb_tells}
 use Rattle.std.specs.List.{filter}
 use Rattle.psa_logic.specs.Sets.{Has, is_part, is_ascending, occurs}
 use Rattle.psa_logic.specs.Products.{IsImplicant, IsPrimeImplicant, IsPrimeProduct, holds_at, is_consistent, is_positive, rank_of}
-use Rattle.psa_logic.proofs.Literals.{literal_holds, holds-each, holds-from, prime-part, consistent-holds}
-use Rattle.psa_logic.proofs.Minimal.{some_part}
-use Rattle.psa_logic.proofs.Parts.{has-occurs, occurs-has}
+use Rattle.psa_logic.proofs.LiteralLemmas.{literal_holds, holds-each, holds-from, prime-part, consistent-holds}
+use Rattle.psa_logic.proofs.MinimalPartLemmas.{some_part}
+use Rattle.psa_logic.proofs.PartLemmas.{has-occurs, occurs-has}
 use Rattle.psa_model.proofs.CutDecisions.{LooksBelow, filter-part, filter-occurs, filter-passes}
 use Rattle.psa_model.proofs.Existence.{IsBelow, numbers_from, has-numbers}
 

@@ -2,7 +2,7 @@
 use Rattle.std.proofs.Common.{◌≡◌, ◌⊎◌, ℕ, zero, suc, ◌+◌, ◌*◌, ◌/◌, ◌<◌, Bool, true, false, List, [], ◌∷◌, length, refl, ap, sym, subst, ◌∙◌, inl, inr, arith, if◌then◌else◌}
 use Rattle.psa_logic.specs.Sets.{Has}
 use Rattle.psa_logic.specs.Products.{IsListing, rank_of, positive_product}
-use Rattle.psa_logic.proofs.Listings.{has-map_from}
+use Rattle.psa_logic.proofs.ListingLemmas.{has-map_from}
 use Rattle.psa_model.specs.declared.expanded.Expanded.{Expanded}
 use Rattle.psa_model.specs.declared.ids.EventNumber.{EventNumber}
 use Rattle.psa_model.specs.declared.settings.Mode.{Mode}

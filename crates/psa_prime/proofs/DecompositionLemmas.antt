@@ -4,8 +4,8 @@ use Rattle.std.proofs.lemmas.Bool.{and_parts, and_from, not-true, not_from_false
 use Rattle.std.proofs.lemmas.Bool.Decides.{eqb_tells}
 use Rattle.psa_logic.specs.Sets.{all_above, is_ascending, is_part, occurs}
 use Rattle.psa_logic.specs.Products.{is_positive, is_consistent, holds_at, IsImplicant, IsPrimeImplicant, IsPrimeProduct}
-use Rattle.psa_logic.proofs.Parts.{part-self, part-nil, part-skip, part-cons, part-all_above, all_above-lower}
-use Rattle.psa_logic.proofs.Literals.{literal_holds, holds-part, prime-part}
+use Rattle.psa_logic.proofs.PartLemmas.{part-self, part-nil, part-skip, part-cons, part-all_above, all_above-lower}
+use Rattle.psa_logic.proofs.LiteralLemmas.{literal_holds, holds-part, prime-part}
 use Rattle.psa_nodes.specs.Readings.{joined}
 use Rattle.psa_nodes.specs.Families.{Spares}
 use Rattle.psa_nodes.proofs.CallerLemmas.{fixed, fixed-past, high-side, low-side}

@@ -4,8 +4,8 @@ use Rattle.std.proofs.lemmas.Bool.{false≢true, and_parts, and_from, lt-ltb, lt
 use Rattle.std.proofs.lemmas.Bool.Decides.{eqb_tells, leb_tells}
 use Rattle.psa_logic.specs.Sets.{all_above, is_ascending, occurs}
 use Rattle.psa_logic.specs.Products.{rank_of, is_positive, is_consistent, holds_at, IsPrimeImplicant}
-use Rattle.psa_logic.proofs.Parts.{part-self, part-skip, all_above-lower}
-use Rattle.psa_logic.proofs.Literals.{literal_holds}
+use Rattle.psa_logic.proofs.PartLemmas.{part-self, part-skip, all_above-lower}
+use Rattle.psa_logic.proofs.LiteralLemmas.{literal_holds}
 use Rattle.psa_nodes.proofs.CallerLemmas.{fixed}
 
 -- a test of sets of ranks

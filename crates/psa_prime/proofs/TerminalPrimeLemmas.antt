@@ -4,8 +4,8 @@ use Rattle.std.proofs.Common.{◌≡◌, ℕ, suc, ◌+◌, ◌*◌, ◌<◌, �
 use Rattle.std.proofs.lemmas.Bool.{false≢true, and_parts, and_from}
 use Rattle.psa_logic.specs.Sets.{occurs}
 use Rattle.psa_logic.specs.Products.{holds_at, IsImplicant, IsPrimeProduct}
-use Rattle.psa_logic.proofs.Parts.{part-nil}
-use Rattle.psa_logic.proofs.Literals.{consistent-holds, prime-part}
+use Rattle.psa_logic.proofs.PartLemmas.{part-nil}
+use Rattle.psa_logic.proofs.LiteralLemmas.{consistent-holds, prime-part}
 use Rattle.psa_nodes.specs.declared.node.Kind.TheVariants.{Bdd, Zbdd}
 use Rattle.psa_nodes.specs.declared.node.Node.{Node}
 use Rattle.psa_nodes.specs.declared.node.Operation.TheVariants.{Primes}

@@ -7,9 +7,9 @@ use Rattle.std.proofs.lemmas.List.{append-nil, append_assoc, map-append}
 use Rattle.std.proofs.lemmas.Simd.{map-map}
 use Rattle.psa_logic.specs.Sets.{all_above, is_ascending, is_part, Has}
 use Rattle.psa_logic.specs.Products.{is_before, is_in_order}
-use Rattle.psa_logic.proofs.Parts.{all_above-has, part-le}
-use Rattle.psa_logic.proofs.Orders.{before-shorter, before-lexical, before-cons, lexical-less}
-use Rattle.psa_logic.proofs.Listings.{has-append_left, has-append_right, has-append_cases, has-map, has-map_from, in_order-append, in_order-map}
+use Rattle.psa_logic.proofs.PartLemmas.{all_above-has, part-le}
+use Rattle.psa_logic.proofs.ReportOrderLemmas.{before-shorter, before-lexical, before-cons, lexical-less}
+use Rattle.psa_logic.proofs.ListingLemmas.{has-append_left, has-append_right, has-append_cases, has-map, has-map_from, in_order-append, in_order-map}
 use Rattle.psa_subsets.specs.Search.{combinations}
 
 -- strictly ascending numbers from `from` on and below `to`

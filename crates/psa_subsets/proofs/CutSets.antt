@@ -3,9 +3,9 @@ use Rattle.std.proofs.Common.{◌≡◌, ◌==◌, ℕ, ◌+◌, ◌<◌, ◌≤
 use Rattle.std.proofs.lemmas.Bool.{ne_eqb, lt-ltb, le-ltb, cases_lt}
 use Rattle.psa_logic.specs.Sets.{is_part, occurs, Has}
 use Rattle.psa_logic.specs.Products.{IsMinimal, IsMinimalCutSet, IsCutProduct, IsListing, positive_product}
-use Rattle.psa_logic.proofs.Parts.{part-cons, part-skip}
-use Rattle.psa_logic.proofs.Orders.{before-positive}
-use Rattle.psa_logic.proofs.Listings.{has-map, has-map_from, in_order-map}
+use Rattle.psa_logic.proofs.PartLemmas.{part-cons, part-skip}
+use Rattle.psa_logic.proofs.ReportOrderLemmas.{before-positive}
+use Rattle.psa_logic.proofs.ListingLemmas.{has-map, has-map_from, in_order-map}
 use Rattle.psa_subsets.specs.Blind.{LooksBelow}
 use Rattle.psa_subsets.specs.Search.{kept_of}
 use Rattle.psa_subsets.proofs.Combinations.{LieWithin, within-ascending, within-from, within-length, sets_of, set-within, within-set, sets-in_order, sets-closed}

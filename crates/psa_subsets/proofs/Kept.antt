@@ -5,9 +5,9 @@ use Rattle.std.proofs.lemmas.Bool.{false≢true, cases_Bool, or_cases, or_parts}
 use Rattle.std.proofs.lemmas.List.{append-nil, append_assoc}
 use Rattle.psa_logic.specs.Sets.{is_part, occurs, Has}
 use Rattle.psa_logic.specs.Products.{IsMinimal, is_before, is_in_order}
-use Rattle.psa_logic.proofs.Parts.{part-trans, part-length}
-use Rattle.psa_logic.proofs.Orders.{before-not_self, before-tells}
-use Rattle.psa_logic.proofs.Listings.{has-append_left, has-append_right, has-append_cases, in_order-append, in_order-across}
+use Rattle.psa_logic.proofs.PartLemmas.{part-trans, part-length}
+use Rattle.psa_logic.proofs.ReportOrderLemmas.{before-not_self, before-tells}
+use Rattle.psa_logic.proofs.ListingLemmas.{has-append_left, has-append_right, has-append_cases, in_order-append, in_order-across}
 use Rattle.psa_subsets.specs.Search.{kept_with, kept_of}
 
 -- what is kept of the sets that were tried: the minimal ones, in order

@@ -4,8 +4,8 @@ use Rattle.std.proofs.lemmas.Bool.{and_parts, and_from, lt-ltb, ltb-true}
 use Rattle.std.proofs.lemmas.Bool.Decides.{eqb_tells}
 use Rattle.psa_logic.specs.Sets.{all_above, is_ascending, is_part, occurs}
 use Rattle.psa_logic.specs.Products.{positive_product, IsMinimalCutSet, IsCutProduct}
-use Rattle.psa_logic.proofs.Parts.{eqb-same, part-nil, part-skip, part-cons, part-trans, part-le, all_above-occurs, part-all_above, part-ascending, all_above-lower}
-use Rattle.psa_logic.proofs.Minimal.{minimal-part}
+use Rattle.psa_logic.proofs.PartLemmas.{eqb-same, part-nil, part-skip, part-cons, part-trans, part-le, all_above-occurs, part-all_above, part-ascending, all_above-lower}
+use Rattle.psa_logic.proofs.MinimalPartLemmas.{minimal-part}
 use Rattle.psa_nodes.specs.Readings.{joined}
 use Rattle.psa_nodes.specs.Families.{Spares}
 use Rattle.psa_zbdd.proofs.PositiveProductLemmas.{part-positive, positive-part, above-positive, DependsFrom, head-same, minimal-head, minimal-above}

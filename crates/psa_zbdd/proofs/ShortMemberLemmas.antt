@@ -6,8 +6,8 @@ use Rattle.std.proofs.lemmas.Bool.Decides.{eqb_tells}
 use Rattle.std.proofs.lemmas.List.{length-map}
 use Rattle.psa_logic.specs.Sets.{all_above, is_ascending, occurs}
 use Rattle.psa_logic.specs.Products.{positive_product, is_positive, holds_at, IsCutProduct}
-use Rattle.psa_logic.proofs.Parts.{all_above-lower, sets-same}
-use Rattle.psa_logic.proofs.Literals.{positive-literal, holds-consistent}
+use Rattle.psa_logic.proofs.PartLemmas.{all_above-lower, sets-same}
+use Rattle.psa_logic.proofs.LiteralLemmas.{positive-literal, holds-consistent}
 use Rattle.psa_nodes.specs.declared.node.Kind.TheVariants.{Zbdd}
 use Rattle.psa_nodes.specs.declared.node.Node.{Node}
 use Rattle.psa_nodes.specs.declared.node.Operation.TheVariants.{Product, MinimalOfBdd}

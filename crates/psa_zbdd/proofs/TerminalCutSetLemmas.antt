@@ -3,7 +3,7 @@ use Rattle.std.proofs.Common.{◌≡◌, ℕ, ◌+◌, ◌<◌, true, false, ◌
 use Rattle.std.proofs.lemmas.Bool.{false≢true, and_parts, and_from}
 use Rattle.psa_logic.specs.Sets.{is_part, occurs}
 use Rattle.psa_logic.specs.Products.{positive_product, IsCutProduct}
-use Rattle.psa_logic.proofs.Parts.{part-nil}
+use Rattle.psa_logic.proofs.PartLemmas.{part-nil}
 use Rattle.psa_nodes.specs.declared.node.Kind.TheVariants.{Zbdd}
 use Rattle.psa_nodes.specs.declared.node.Node.{Node}
 use Rattle.psa_nodes.specs.declared.node.Operation.TheVariants.{MinimalOfBdd}

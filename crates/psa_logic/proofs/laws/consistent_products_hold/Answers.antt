@@ -1,6 +1,6 @@
 use Rattle.std.proofs.Common.{◌*◌}
 use Rattle.psa_logic.specs.Sets.{occurs}
-use Rattle.psa_logic.proofs.Literals.{consistent-holds, holds-consistent}
+use Rattle.psa_logic.proofs.LiteralLemmas.{consistent-holds, holds-consistent}
 use Rattle.psa_logic.proofs.laws.consistent_products_hold.Goals as goal
 
 pub returns : goal.returns

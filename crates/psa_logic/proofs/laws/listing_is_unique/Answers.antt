@@ -1,5 +1,5 @@
 use Rattle.psa_logic.specs.Products.{IsCutProduct, IsPrimeProduct}
-use Rattle.psa_logic.proofs.Listings.{listing-only}
+use Rattle.psa_logic.proofs.ListingLemmas.{listing-only}
 use Rattle.psa_logic.proofs.laws.listing_is_unique.Goals as goal
 
 pub returns-clause-cut_sets : goal.returns-clause-cut_sets

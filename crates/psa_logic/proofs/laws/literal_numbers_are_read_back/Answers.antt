@@ -1,4 +1,4 @@
-use Rattle.psa_logic.proofs.Literals.{rank-literal, positive-literal, literal-read}
+use Rattle.psa_logic.proofs.LiteralLemmas.{rank-literal, positive-literal, literal-read}
 use Rattle.psa_logic.proofs.laws.literal_numbers_are_read_back.Goals as goal
 
 pub returns-clause-rank : goal.returns-clause-rank

@@ -1,4 +1,4 @@
-use Rattle.psa_logic.proofs.Minimal.{minimal-part}
+use Rattle.psa_logic.proofs.MinimalPartLemmas.{minimal-part}
 use Rattle.psa_logic.proofs.laws.minimal_cut_sets_are_least.Goals as goal
 
 pub returns-clause-apart : goal.returns-clause-apart

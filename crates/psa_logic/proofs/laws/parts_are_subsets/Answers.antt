@@ -1,4 +1,4 @@
-use Rattle.psa_logic.proofs.Parts.{part-has, part-from_has, part-ascending}
+use Rattle.psa_logic.proofs.PartLemmas.{part-has, part-from_has, part-ascending}
 use Rattle.psa_logic.proofs.laws.parts_are_subsets.Goals as goal
 
 pub returns-clause-subsets : goal.returns-clause-subsets

@@ -1,4 +1,4 @@
-use Rattle.psa_logic.proofs.Literals.{prime-part}
+use Rattle.psa_logic.proofs.LiteralLemmas.{prime-part}
 use Rattle.psa_logic.proofs.laws.prime_implicants_are_least.Goals as goal
 
 pub returns : goal.returns

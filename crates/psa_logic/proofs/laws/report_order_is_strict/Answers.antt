@@ -1,4 +1,4 @@
-use Rattle.psa_logic.proofs.Orders.{before-irreflexive, before-trans, before-total}
+use Rattle.psa_logic.proofs.ReportOrderLemmas.{before-irreflexive, before-trans, before-total}
 use Rattle.psa_logic.proofs.laws.report_order_is_strict.Goals as goal
 
 pub returns-clause-irreflexive : goal.returns-clause-irreflexive

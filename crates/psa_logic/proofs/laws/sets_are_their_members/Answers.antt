@@ -1,4 +1,4 @@
-use Rattle.psa_logic.proofs.Parts.{occurs-has, has-occurs, sets-same}
+use Rattle.psa_logic.proofs.PartLemmas.{occurs-has, has-occurs, sets-same}
 use Rattle.psa_logic.proofs.laws.sets_are_their_members.Goals as goal
 
 pub returns-clause-members : goal.returns-clause-members

@@ -4,18 +4,21 @@ use Rattle.std.proofs.lemmas.Bool.{false≢true, eq-eqb, ne_eqb, and_parts, and_
 use Rattle.std.proofs.lemmas.Bool.Decides.{eqb_tells}
 use Rattle.std.proofs.lemmas.List.{length-map}
 use Rattle.psa_logic.specs.Products.{is_lexically_before, is_before, positive_product}
-use Rattle.psa_logic.proofs.Parts.{eqb-same}
+use Rattle.psa_logic.proofs.PartLemmas.{eqb-same}
 
 -- the order of two lists whose heads are equal, the first is less, or the second is
 pub lexical-same : (x : ℕ) (xs ys : List ℕ) → is_lexically_before (x ∷ xs) (x ∷ ys) ≡ is_lexically_before xs ys
 lexical-same x xs ys = rw (le-ltb x x (omega arith), eqb-same x) refl
 
+-- A list with a lesser head stands before the other.
 pub lexical-less : (x y : ℕ) (xs ys : List ℕ) → x < y → is_lexically_before (x ∷ xs) (y ∷ ys) ≡ true
 lexical-less x y xs ys h = rw (lt-ltb x y h) refl
 
+-- A list with a greater head does not stand before the other.
 pub lexical-more : (x y : ℕ) (xs ys : List ℕ) → y < x → is_lexically_before (x ∷ xs) (y ∷ ys) ≡ false
 lexical-more x y xs ys h = rw (le-ltb x y (omega arith), ne_eqb x y (λ e. omega arith)) refl
 
+-- No list stands lexicographically before itself.
 pub lexical-irreflexive : (xs : List ℕ) → is_lexically_before xs xs ≡ false
 lexical-irreflexive [] = refl
 lexical-irreflexive (x ∷ xs) = lexical-same x xs xs ∙ lexical-irreflexive xs
@@ -27,6 +30,7 @@ lexical-heads x y xs ys h = elim (or_cases (nat_lt x y) ((x == y) && is_lexicall
   | inr e ↦ inr (elim (eqb_tells x y) [ inl p ↦ (p.1, (and_parts (x == y) (is_lexically_before xs ys) e).1) | inr p ↦ absurd (false≢true (rw p.0 at e)) ])
 ]
 
+-- The lexicographic order is transitive.
 pub lexical-trans : (xs ys zs : List ℕ) → is_lexically_before xs ys ≡ true → is_lexically_before ys zs ≡ true → is_lexically_before xs zs ≡ true
 lexical-trans [] [] zs h k = absurd (false≢true h)
 lexical-trans [] (y ∷ ys) [] h k = absurd (false≢true k)
@@ -46,6 +50,7 @@ lexical-trans (x ∷ xs) (y ∷ ys) (z ∷ zs) h k = elim (lexical-heads x y xs 
   ]
 ]
 
+-- Of two lists that differ, one stands lexicographically before the other.
 pub lexical-total : (xs ys : List ℕ) → (xs ≡ ys) ⊎ ((is_lexically_before xs ys ≡ true) ⊎ (is_lexically_before ys xs ≡ true))
 lexical-total [] [] = inl refl
 lexical-total [] (y ∷ ys) = inr (inl refl)
@@ -76,6 +81,7 @@ before-tells xs ys h = elim (or_cases (nat_lt (length xs) (length ys)) ((length 
   | inr e ↦ inr (elim (eqb_tells (length xs) (length ys)) [ inl p ↦ (p.1, (and_parts (length xs == length ys) (is_lexically_before xs ys) e).1) | inr p ↦ absurd (false≢true (rw p.0 at e)) ])
 ]
 
+-- The test of report order fails for a list and itself.
 pub before-irreflexive : (xs : List ℕ) → is_before xs xs ≡ false
 before-irreflexive xs = rw (le-ltb (length xs) (length xs) (omega arith), eqb-same (length xs)) (lexical-irreflexive xs)
 
@@ -83,6 +89,7 @@ before-irreflexive xs = rw (le-ltb (length xs) (length xs) (omega arith), eqb-sa
 pub before-not_self : (xs : List ℕ) → is_before xs xs ≡ true → ⊥
 before-not_self xs h = false≢true (sym (before-irreflexive xs) ∙ h)
 
+-- Report order is transitive.
 pub before-trans : (xs ys zs : List ℕ) → is_before xs ys ≡ true → is_before ys zs ≡ true → is_before xs zs ≡ true
 before-trans xs ys zs h k = elim (before-tells xs ys h) [
   | inl p ↦ elim (before-tells ys zs k) [
@@ -95,6 +102,7 @@ before-trans xs ys zs h k = elim (before-tells xs ys h) [
   ]
 ]
 
+-- Of two lists that differ, one stands before the other in report order.
 pub before-total : (xs ys : List ℕ) → (xs ≡ ys) ⊎ ((is_before xs ys ≡ true) ⊎ (is_before ys xs ≡ true))
 before-total xs ys = elim (cases_order (length xs) (length ys)) [
   | inl e ↦ elim (lexical-total xs ys) [
@@ -124,6 +132,7 @@ doubled-lexical (x ∷ xs) (y ∷ ys) h = elim (lexical-heads x y xs ys h) [
       (and_from (2 * x == 2 * y) (is_lexically_before (positive_product xs) (positive_product ys)) (eq-eqb (2 * x) (2 * y) (ap (λ n. 2 * n) e)) (doubled-lexical xs ys p.1))
 ]
 
+-- The positive products of two sets stand in the order of the sets.
 pub before-positive : (xs ys : List ℕ) → is_before xs ys ≡ true → is_before (positive_product xs) (positive_product ys) ≡ true
 before-positive xs ys h =
     let l : length (positive_product xs) ≡ length xs = length-map xs (λ rank. 2 * rank) in

@@ -4,7 +4,7 @@ use Rattle.std.proofs.lemmas.Bool.{false≢true, and_parts, and_from, lt-ltb, lt
 use Rattle.std.proofs.lemmas.Bool.Decides.{eqb_tells}
 use Rattle.psa_logic.specs.Sets.{is_ascending, is_part, occurs}
 use Rattle.psa_logic.specs.Products.{IsMinimal, IsMinimalCutSet}
-use Rattle.psa_logic.proofs.Parts.{part-self, part-nil, part-skip, part-cons, part-trans, part-length, part-ascending}
+use Rattle.psa_logic.proofs.PartLemmas.{part-self, part-nil, part-skip, part-cons, part-trans, part-length, part-ascending}
 
 -- a part passes a test, or none does
 pub some_part : (p : List ℕ → Bool) (set : List ℕ) → ((part : List ℕ) × (is_part part set ≡ true) × (p part ≡ true)) ⊎ ((part : List ℕ) → is_part part set ≡ true → p part ≡ true → ⊥)
@@ -53,6 +53,7 @@ minimal-part_below f (suc bound) set le cuts = elim (some_part (λ part. nat_lt 
   )
 ]
 
+-- Each set at which a truth holds has a part that is a minimal cut set of it.
 pub minimal-part : (f : (ℕ → Bool) → Bool) (set : List ℕ) → is_ascending set ≡ true → f (occurs set) ≡ true → (part : List ℕ) × (is_part part set ≡ true) × IsMinimalCutSet f part
 minimal-part f set ascending cuts =
     let least = minimal-part_below f (suc (length set)) set (omega arith) cuts in

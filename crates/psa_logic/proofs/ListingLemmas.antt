@@ -1,19 +1,21 @@
--- Lemmas on the items of a list, on lists in report order, and that a listing is the only one.
+-- The items of joined and mapped lists, lists in report order, and that a listing is the only one.
 use Rattle.std.proofs.Common.{◌≡◌, ◌⊎◌, ℕ, true, List, [], ◌∷◌, ◌++◌, map, refl, sym, ap, subst, ◌∙◌, inl, inr}
 use Rattle.std.proofs.lemmas.Bool.{and_parts, and_from}
 use Rattle.psa_logic.specs.Sets.{Has}
 use Rattle.psa_logic.specs.Products.{is_before, is_before_all, is_in_order, IsListing}
-use Rattle.psa_logic.proofs.Orders.{before-not_self, before-trans}
+use Rattle.psa_logic.proofs.ReportOrderLemmas.{before-not_self, before-trans}
 
 -- an item of one of two lists is an item of both joined, and the other way round
 pub has-append_left : {A : Type 0} → (xs ys : List A) (x : A) → Has xs x → Has (xs ++ ys) x
 has-append_left [] ys x h = absurd h
 has-append_left (y ∷ xs) ys x h = elim h [ inl e ↦ inl e | inr r ↦ inr (has-append_left xs ys x r) ]
 
+-- An item of the second list is an item of both joined.
 pub has-append_right : {A : Type 0} → (xs ys : List A) (x : A) → Has ys x → Has (xs ++ ys) x
 has-append_right [] ys x h = h
 has-append_right (y ∷ xs) ys x h = inr (has-append_right xs ys x h)
 
+-- An item of two lists joined is an item of one of them.
 pub has-append_cases : {A : Type 0} → (xs ys : List A) (x : A) → Has (xs ++ ys) x → Has xs x ⊎ Has ys x
 has-append_cases [] ys x h = inr h
 has-append_cases (y ∷ xs) ys x h = elim h [
@@ -26,6 +28,7 @@ pub has-map : {A B : Type 0} → (f : A → B) (xs : List A) (x : A) → Has xs 
 has-map f [] x h = absurd h
 has-map f (y ∷ xs) x h = elim h [ inl e ↦ inl (ap f e) | inr r ↦ inr (has-map f xs x r) ]
 
+-- Each item of the image is the image of an item.
 pub has-map_from : {A B : Type 0} → (f : A → B) (xs : List A) (z : B) → Has (map f xs) z → (x : A) × (Has xs x) × (f x ≡ z)
 has-map_from f [] z h = absurd h
 has-map_from f (y ∷ xs) z h = elim h [
@@ -39,6 +42,7 @@ before_all-from one [] each = refl
 before_all-from one (other ∷ others) each =
     and_from (is_before one other) (is_before_all one others) (each other (inl refl)) (before_all-from one others (λ o m. each o (inr m)))
 
+-- A list that stands before all others stands before each of them.
 pub before_all-each : (one : List ℕ) (others : List (List ℕ)) → is_before_all one others ≡ true → (other : List ℕ) → Has others other → is_before one other ≡ true
 before_all-each one [] h other m = absurd m
 before_all-each one (x ∷ others) h other m =

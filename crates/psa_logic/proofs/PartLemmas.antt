@@ -1,9 +1,10 @@
--- Lemmas on parts of a list, on the test of membership, and on ascending lists.
+-- Parts of a list are transitive, in its order and of its items; an ascending list is known by its items.
 use Rattle.std.proofs.Common.{◌≡◌, ◌⊎◌, ◌==◌, ℕ, ◌<◌, ◌≤◌, true, false, List, [], ◌∷◌, length, nat_lt, refl, sym, ap, ◌∙◌, inl, inr, arith}
 use Rattle.std.proofs.lemmas.Bool.{false≢true, eq-eqb, ne_eqb, and_parts, and_from, lt-ltb, ltb-true}
 use Rattle.std.proofs.lemmas.Bool.Decides.{eqb_tells}
 use Rattle.psa_logic.specs.Sets.{all_above, is_ascending, is_part, occurs, Has}
 
+-- Each number passes the test of being equal to itself.
 pub eqb-same : (x : ℕ) → (x == x) ≡ true
 eqb-same x = eq-eqb x x refl
 
@@ -134,6 +135,7 @@ occurs-has (y ∷ ys) x h = elim (eqb_tells y x) [
   | inr p ↦ inr (occurs-has ys x (rw p.0 at h))
 ]
 
+-- An item of a list occurs in it.
 pub has-occurs : (xs : List ℕ) (x : ℕ) → Has xs x → occurs xs x ≡ true
 has-occurs [] x h = absurd h
 has-occurs (y ∷ ys) x h = elim (eqb_tells y x) [

@@ -1,20 +1,23 @@
--- Lemmas on literal numbers, on products that hold, and on the parts of a prime implicant.
+-- A literal is read back from its number; a product holds where its literals do; prime implicants are least.
 use Rattle.std.proofs.Common.{◌≡◌, ℕ, suc, ◌+◌, ◌*◌, ◌/◌, ◌%◌, ◌<◌, Bool, true, false, List, [], ◌∷◌, length, map, not, if◌then◌else◌, refl, sym, ap, ◌∙◌, inl, inr, arith}
 use Rattle.std.proofs.lemmas.Bool.{false≢true, and_parts, and_from, eq-eqb, ne_eqb, not-true, not_from_false, false_from_ne_true}
 use Rattle.std.proofs.lemmas.Bool.Decides.{eqb_tells}
 use Rattle.psa_logic.specs.Sets.{all_above, is_ascending, is_part, occurs, Has}
 use Rattle.psa_logic.specs.Products.{literal_number, rank_of, is_positive, is_consistent, holds_at, IsImplicant, IsPrimeImplicant}
-use Rattle.psa_logic.proofs.Parts.{part-self, part-nil, part-skip, part-cons, part-length, occurs-has, has-occurs, all_above-has}
-use Rattle.psa_logic.proofs.Listings.{has-map, has-map_from}
+use Rattle.psa_logic.proofs.PartLemmas.{part-self, part-nil, part-skip, part-cons, part-length, occurs-has, has-occurs, all_above-has}
+use Rattle.psa_logic.proofs.ListingLemmas.{has-map, has-map_from}
 
+-- The rank of a literal is read back from its number.
 pub rank-literal : (rank : ℕ) (occurring : Bool) → rank_of (literal_number rank occurring) ≡ rank
 rank-literal rank true = omega arith
 rank-literal rank false = omega arith
 
+-- Whether a literal is of the event's occurring is read back from its number.
 pub positive-literal : (rank : ℕ) (occurring : Bool) → is_positive (literal_number rank occurring) ≡ occurring
 positive-literal rank true = eq-eqb ((2 * rank) % 2) 0 (omega arith)
 positive-literal rank false = ne_eqb ((2 * rank + 1) % 2) 0 (λ e. omega arith)
 
+-- A number is the literal number of the rank and the sign that are read from it.
 pub literal-read : (literal : ℕ) → literal_number (rank_of literal) (is_positive literal) ≡ literal
 literal-read literal = elim (eqb_tells (literal % 2) 0) [
   | inl p ↦ let even : literal % 2 ≡ 0 = p.1 in rw p.0 (omega arith)
@@ -28,6 +31,7 @@ literal-read literal = elim (eqb_tells (literal % 2) 0) [
 abbrev pub literal_holds : (ℕ → Bool) → ℕ → Bool
 literal_holds s literal = if is_positive literal then s (rank_of literal) else not (s (rank_of literal))
 
+-- Where a product holds, each of its literals does.
 pub holds-each : (s : ℕ → Bool) (product : List ℕ) → holds_at s product ≡ true → (literal : ℕ) → Has product literal → literal_holds s literal ≡ true
 holds-each s [] h literal m = absurd m
 holds-each s (x ∷ xs) h literal m =
@@ -37,6 +41,7 @@ holds-each s (x ∷ xs) h literal m =
       | inr r ↦ holds-each s xs p.1 literal r
     ]
 
+-- A product holds where each of its literals does.
 pub holds-from : (s : ℕ → Bool) (product : List ℕ) → ((literal : ℕ) → Has product literal → literal_holds s literal ≡ true) → holds_at s product ≡ true
 holds-from s [] each = refl
 holds-from s (x ∷ xs) each = and_from (literal_holds s x) (holds_at s xs) (each x (inl refl)) (holds-from s xs (λ l m. each l (inr m)))
