@@ -8,9 +8,7 @@ mod event_index;
 mod expansion;
 mod memo;
 mod occurrence;
-mod questions;
 mod ranking;
-mod recording;
 mod target_truth;
 mod tops;
 
