@@ -1,4 +1,4 @@
-pub mod Combinations
-pub mod Kept
-pub mod CutSets
-pub mod Steps
+pub mod CombinationLemmas
+pub mod KeptSetLemmas
+pub mod CutSetListingLemmas
+pub mod SearchStepLemmas

@@ -1,6 +1,6 @@
 use Rattle.std.proofs.Common.{◌≤◌, length, arith}
 use Rattle.psa_logic.specs.Sets.{is_part}
-use Rattle.psa_subsets.proofs.Steps.{included-end}
+use Rattle.psa_subsets.proofs.SearchStepLemmas.{included-end}
 use Rattle.psa_subsets.proofs.parts.includes.Goals as goal
 
 pub returns : goal.returns

@@ -1,7 +1,7 @@
 use Rattle.std.proofs.Common.{◌≡◌, ◌+◌, ◌-◌, ◌<◌, ◌++◌, map, subst, arith}
 use Rattle.psa_subsets.specs.Search.{combinations, kept_of}
 use Rattle.std.proofs.lemmas.Result.{on_ok_weaker}
-use Rattle.psa_subsets.proofs.Steps.{tried-both}
+use Rattle.psa_subsets.proofs.SearchStepLemmas.{tried-both}
 use Rattle.psa_subsets.proofs.search.+try_sets.Goals as goal
 
 pub returns-clause-kept : goal.returns-clause-kept

@@ -1,5 +1,5 @@
 use Rattle.std.proofs.Common.{◌≡◌, ◌+◌, min, arith, ◌∙◌}
-use Rattle.psa_subsets.proofs.Steps.{sized, all-sizes}
+use Rattle.psa_subsets.proofs.SearchStepLemmas.{sized, all-sizes}
 use Rattle.psa_subsets.proofs.search.minimal_cut_sets.Goals as goal
 
 pub loop-size-preserved : goal.loop-size-preserved

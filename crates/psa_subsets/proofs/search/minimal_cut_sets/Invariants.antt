@@ -1,6 +1,6 @@
 use Rattle.std.proofs.Common.{◌≡◌, []}
 use Rattle.psa_subsets.specs.Search.{kept_of}
-use Rattle.psa_subsets.proofs.Combinations.{sets_of}
+use Rattle.psa_subsets.proofs.CombinationLemmas.{sets_of}
 use Rattle.psa_subsets.proofs.search.minimal_cut_sets.Given as goal
 
 -- the sets of each size below this one were tried

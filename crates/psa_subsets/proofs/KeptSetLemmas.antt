@@ -130,6 +130,7 @@ kept-all f done (set ∷ rest) kept so ordered closed =
     (kept-all f (done ++ set ∷ []) rest (kept_with f kept set) more split
     (λ part s m h. subst (λ v. Has v part) (sym again) (closed part s (subst (λ v. Has v s) again m) h)))
 
+-- What is kept of one list of sets and then of another is what is kept of both joined.
 pub kept_of-append : (f : (ℕ → Bool) → Bool) (kept xs ys : List (List ℕ)) → kept_of f kept (xs ++ ys) ≡ kept_of f (kept_of f kept xs) ys
 kept_of-append f kept [] ys = refl
 kept_of-append f kept (x ∷ xs) ys = kept_of-append f (kept_with f kept x) xs ys

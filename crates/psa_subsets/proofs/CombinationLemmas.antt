@@ -17,21 +17,25 @@ abbrev pub LieWithin : ℕ → ℕ → List ℕ → Type 0
 LieWithin from to [] = Unit {0}
 LieWithin from to (x ∷ xs) = (from ≤ x) × (x < to) × LieWithin (x + 1) to xs
 
+-- Numbers that lie from one number on lie from each lower one on.
 pub within-lower : (w v to : ℕ) (xs : List ℕ) → w ≤ v → LieWithin v to xs → LieWithin w to xs
 within-lower w v to [] le h = tt
 within-lower w v to (x ∷ xs) le h = let from : v ≤ x = h.0 in (omega arith, h.1, h.2)
 
+-- Numbers that lie from one number on are above each lower one.
 pub within-above : (x from to : ℕ) (xs : List ℕ) → x < from → LieWithin from to xs → all_above x xs ≡ true
 within-above x from to [] lt h = refl
 within-above x from to (y ∷ ys) lt h =
     let least : from ≤ y = h.0 in
     and_from (nat_lt x y) (all_above x ys) (lt-ltb x y (omega arith)) (within-above x (y + 1) to ys (omega arith) h.2)
 
+-- Numbers that lie strictly ascending within two numbers are a set.
 pub within-ascending : (from to : ℕ) (xs : List ℕ) → LieWithin from to xs → is_ascending xs ≡ true
 within-ascending from to [] h = refl
 within-ascending from to (x ∷ xs) h =
     and_from (all_above x xs) (is_ascending xs) (within-above x (x + 1) to xs (omega arith) h.2) (within-ascending (x + 1) to xs h.2)
 
+-- A set whose members all lie within two numbers lies within them.
 pub within-from : (from to : ℕ) (xs : List ℕ) → is_ascending xs ≡ true → ((n : ℕ) → Has xs n → (from ≤ n) × (n < to)) → LieWithin from to xs
 within-from from to [] h each = tt
 within-from from to (x ∷ xs) h each =
@@ -39,6 +43,7 @@ within-from from to (x ∷ xs) h each =
     let here = each x (inl refl) in
     (here.0, here.1, within-from (x + 1) to xs p.1 (λ n m. let lt : x < n = all_above-has x xs n p.0 m in (omega arith, (each n (inr m)).1)))
 
+-- A set within two numbers has at most as many members as there are numbers from one to the other.
 pub within-length : (from to : ℕ) (xs : List ℕ) → from ≤ to → LieWithin from to xs → length xs + from ≤ to
 within-length from to [] le h = omega arith
 within-length from to (x ∷ xs) le h =
@@ -104,6 +109,7 @@ head-before from to size set (y ∷ ys) l h k =
     let least : from + 1 ≤ y = h.0 in
     before-lexical (from ∷ set) (y ∷ ys) (omega arith) (lexical-less from y set ys (omega arith))
 
+-- The combinations of a size are in report order.
 pub combinations-in_order : (from count size : ℕ) → is_in_order (combinations from count size) ≡ true
 combinations-in_order from count zero = refl
 combinations-in_order from zero (suc size) = refl
@@ -122,6 +128,7 @@ abbrev pub sets_of : ℕ → ℕ → List (List ℕ)
 sets_of width zero = []
 sets_of width (suc size) = sets_of width size ++ combinations 0 width size
 
+-- A set that is tried has fewer than `sizes` members, all below the width.
 pub set-within : (width sizes : ℕ) (set : List ℕ) → Has (sets_of width sizes) set → LieWithin 0 width set × (length set < sizes)
 set-within width zero set m = absurd m
 set-within width (suc size) set m = elim (has-append_cases (sets_of width size) (combinations 0 width size) set m) [
@@ -129,6 +136,7 @@ set-within width (suc size) set m = elim (has-append_cases (sets_of width size) 
   | inr p ↦ let rest = combination-within 0 width size width set (omega arith) p in let same : length set ≡ size = rest.1 in (rest.0, omega arith)
 ]
 
+-- Each set of fewer than `sizes` members, all below the width, is tried.
 pub within-set : (width sizes : ℕ) (set : List ℕ) → LieWithin 0 width set → length set < sizes → Has (sets_of width sizes) set
 within-set width zero set h l = absurd (omega arith)
 within-set width (suc size) set h l = elim (cases_eq (length set) size) [
@@ -136,6 +144,7 @@ within-set width (suc size) set h l = elim (cases_eq (length set) size) [
   | inr other ↦ has-append_left (sets_of width size) (combinations 0 width size) set (within-set width size set h (omega arith))
 ]
 
+-- The sets are tried in report order.
 pub sets-in_order : (width sizes : ℕ) → is_in_order (sets_of width sizes) ≡ true
 sets-in_order width zero = refl
 sets-in_order width (suc size) =
@@ -157,6 +166,7 @@ sets-closed width sizes part set m h =
 pub extended-none : (chosen : List ℕ) (from count : ℕ) → map (λ set. chosen ++ set) (combinations from count 0) ≡ chosen ∷ []
 extended-none chosen from count = ap (λ set. set ∷ []) (append-nil chosen)
 
+-- Where no rank is left and one more is wanted, there is no set.
 pub extended-end : (chosen : List ℕ) (from more : ℕ) → 0 < more → map (λ set. chosen ++ set) (combinations from 0 more) ≡ []
 extended-end chosen from zero h = absurd (omega arith)
 extended-end chosen from (suc more) h = refl
@@ -165,6 +175,7 @@ extended-step_at : (chosen : List ℕ) (from count more : ℕ) → map (λ set. 
 extended-step_at chosen from count more =
     simp (map-append, map-map, append_assoc)
 
+-- The sets from the chosen ranks on are those with the next rank, and then those without it.
 pub extended-step : (chosen : List ℕ) (from width more : ℕ) → from < width → 0 < more → map (λ set. chosen ++ set) (combinations from (width - from) more) ≡ map (λ set. (chosen ++ from ∷ []) ++ set) (combinations (from + 1) (width - (from + 1)) (more - 1)) ++ map (λ set. chosen ++ set) (combinations (from + 1) (width - (from + 1)) more)
 extended-step chosen from width zero lt h = absurd (omega arith)
 extended-step chosen from width (suc more) lt h =

@@ -8,8 +8,8 @@ use Rattle.psa_logic.proofs.ReportOrderLemmas.{before-positive}
 use Rattle.psa_logic.proofs.ListingLemmas.{has-map, has-map_from, in_order-map}
 use Rattle.psa_subsets.specs.Blind.{LooksBelow}
 use Rattle.psa_subsets.specs.Search.{kept_of}
-use Rattle.psa_subsets.proofs.Combinations.{LieWithin, within-ascending, within-from, within-length, sets_of, set-within, within-set, sets-in_order, sets-closed}
-use Rattle.psa_subsets.proofs.Kept.{AreMinimal, kept-all}
+use Rattle.psa_subsets.proofs.CombinationLemmas.{LieWithin, within-ascending, within-from, within-length, sets_of, set-within, within-set, sets-in_order, sets-closed}
+use Rattle.psa_subsets.proofs.KeptSetLemmas.{AreMinimal, kept-all}
 
 -- the members below a width
 below : ℕ → List ℕ → List ℕ
@@ -54,6 +54,7 @@ minimal-tried f width limit set looks minimal short =
     let le : length set + 0 ≤ width = within-length 0 width set (omega arith) within in
     within-set width (min width limit + 1) set within (omega arith)
 
+-- The sets that are kept, as positive products, are the listing of the minimal cut sets within the limit.
 pub kept-listing : (f : (ℕ → Bool) → Bool) (width limit : ℕ) → LooksBelow width f → IsListing (IsCutProduct f limit) (map positive_product (kept_of f [] (sets_of width (min width limit + 1))))
 kept-listing f width limit looks =
     let none : AreMinimal f [] [] = record { ordered = refl; tried = λ set m. m; sound = λ set m. absurd m; whole = λ set m minimal. m } in

@@ -1,4 +1,4 @@
--- Steps of the code, over plain variables.
+-- Each step of the search does what the definition says of it, over plain variables.
 use Rattle.std.proofs.Common.{◌≡◌, ◌==◌, ℕ, suc, ◌+◌, ◌-◌, min, ◌<◌, ◌≤◌, Bool, List, [], ◌∷◌, ◌++◌, length, map, drop, get_or, Option, Some, None, sym, ap, subst, ◌∙◌, inl, inr, arith, drop-cons}
 use Rattle.std.specs.Option.{MatchOption}
 use Rattle.std.proofs.lemmas.Bool.{eq-eqb, ne_eqb, cases_eq}
@@ -7,9 +7,9 @@ use Rattle.psa_logic.specs.Sets.{is_part}
 use Rattle.psa_subsets.specs.Search.{combinations, kept_of}
 use Rattle.psa_logic.specs.Products.{IsCutProduct, IsListing, positive_product}
 use Rattle.psa_subsets.specs.Blind.{LooksBelow}
-use Rattle.psa_subsets.proofs.Combinations.{extended-step, sets_of}
-use Rattle.psa_subsets.proofs.CutSets.{kept-listing}
-use Rattle.psa_subsets.proofs.Kept.{kept_of-append}
+use Rattle.psa_subsets.proofs.CombinationLemmas.{extended-step, sets_of}
+use Rattle.psa_subsets.proofs.CutSetListingLemmas.{kept-listing}
+use Rattle.psa_subsets.proofs.KeptSetLemmas.{kept_of-append}
 
 -- at the end of a set a part is found where nothing is left of it
 pub included-end : (part set : List ℕ) (found index : ℕ) (whole : Bool) → found ≤ length part → length set ≤ index → is_part (drop found part) (drop index set) ≡ whole → (found == length part) ≡ whole
