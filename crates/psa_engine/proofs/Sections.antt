@@ -20,7 +20,7 @@ use Rattle.psa_model.specs.Report.AreSections.{no_section, and_section}
 use Rattle.psa_model.specs.Report.IsReport.{written}
 use Rattle.psa_plain.specs.Tops.{IsTop}
 use Rattle.psa_ports.specs.Sink.{AppendsPrefix}
-use Rattle.psa_ports.proofs.Pieces.{prefix-nil, prefix-whole, prefix-more, prefix-after}
+use Rattle.psa_ports.proofs.WrittenPieceLemmas.{prefix-nil, prefix-whole, prefix-more, prefix-after}
 use Rattle.psa_engine.specs.FirstModel.{AreFirst, WritesAll, WritesPart, first_settings}
 use Rattle.psa_engine.specs.Sections.{WritesSections, WritesSectionsPart}
 use Rattle.psa_engine.proofs.Written.{appends-after}

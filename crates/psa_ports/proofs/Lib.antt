@@ -1,3 +1,3 @@
-pub mod Counts
-pub mod Pieces
-pub mod Places
+pub mod RisenCountLemmas
+pub mod WrittenPieceLemmas
+pub mod FilePlaceLemmas

@@ -1,6 +1,6 @@
 use Rattle.std.proofs.Common.{[], ◌∷◌, ◌++◌, codes}
 use Rattle.std.specs.Io.KnownBytes.{Appends}
-use Rattle.psa_ports.proofs.Pieces.{prefix-more, prefix-after}
+use Rattle.psa_ports.proofs.WrittenPieceLemmas.{prefix-more, prefix-after}
 use Rattle.psa_engine.proofs.Written.{OnOk-then, appends-after}
 use Rattle.psa_engine.proofs.telling.put_unread.Goals as goal
 

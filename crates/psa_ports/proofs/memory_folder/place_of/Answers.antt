@@ -1,6 +1,6 @@
 -- The file that has the name is the first that has it.
 use Rattle.std.proofs.Common.{rules}
-use Rattle.psa_ports.proofs.Places.{text_of-file}
+use Rattle.psa_ports.proofs.FilePlaceLemmas.{text_of-file}
 use Rattle.psa_ports.proofs.memory_folder.place_of.Goals as goal
 
 pub returns-then-eq : goal.returns-then-eq
