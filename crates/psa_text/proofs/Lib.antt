@@ -1,10 +1,10 @@
-pub mod Runs
-pub mod Turns
-pub mod Stands
-pub mod Depths
-pub mod Spelled
-pub mod Ascii
-pub mod FirstTexts
+pub mod ByteRunLemmas
+pub mod TreeReadingLemmas
+pub mod NestingStateLemmas
+pub mod DepthLemmas
+pub mod SpelledItemLemmas
+pub mod AsciiTextLemmas
+pub mod FirstTextLemmas
 pub mod OneReading
 pub mod TreeSizes
 pub mod OneOutcome

@@ -1,4 +1,4 @@
-use Rattle.psa_text.proofs.FirstTexts.{is_first_text}
+use Rattle.psa_text.proofs.FirstTextLemmas.{is_first_text}
 use Rattle.psa_text.proofs.document.first_document.Goals as goal
 
 pub returns-in-Ok-clause-grammar : goal.returns-in-Ok-clause-grammar

@@ -3,7 +3,7 @@ use Rattle.std.proofs.lemmas.Result.{err_from_is_err_and}
 use Rattle.std.proofs.lemmas.Bool.Decides.{nat_tests}
 use Rattle.psa_text.specs.Bytes.{line_feeds}
 use Rattle.psa_text.specs.Nesting.{state_of}
-use Rattle.psa_text.proofs.Turns.{goes_on, refused_item, refused_step, ended, root_or_refused}
+use Rattle.psa_text.proofs.TreeReadingLemmas.{goes_on, refused_item, refused_step, ended, root_or_refused}
 use Rattle.psa_text.proofs.document.read_tree.Goals as goal
 
 pub returns-in_err-token : goal.returns-in_err-token

@@ -1,6 +1,6 @@
 use Rattle.std.proofs.Common.{◌+◌, ◌≤◌, length}
 use Rattle.psa_text.specs.Nesting.{state_of}
-use Rattle.psa_text.proofs.Turns.{LeadsTo}
+use Rattle.psa_text.proofs.TreeReadingLemmas.{LeadsTo}
 use Rattle.psa_text.proofs.document.read_tree.Given as goal
 
 -- what is left leads to the tree of all, and no line is past the bytes

@@ -1,5 +1,5 @@
 use Rattle.psa_text.specs.declared.bytes.Class.TheVariants.{Name}
-use Rattle.psa_text.proofs.Runs.{run_ascii}
+use Rattle.psa_text.proofs.ByteRunLemmas.{run_ascii}
 use Rattle.psa_text.proofs.reader.read_name.Goals as goal
 
 pub from_ascii-requires : goal.from_ascii-requires

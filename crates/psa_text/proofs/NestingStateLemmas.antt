@@ -9,6 +9,7 @@ use Rattle.psa_text.specs.declared.token.Token.TheVariants.{Start, Empty, End, P
 use Rattle.psa_text.specs.Tree.{Item, element_of, IsElement, is_empty, is_around, AreElements, no_element, and_passed, and_element}
 use Rattle.psa_text.specs.Nesting.{State, with_child, nesting_with_in, deep_nesting_after, finished_root}
 
+-- Equal options hold equal values.
 pub some_same : {A : Type 0} (x y : A) → Some x ≡ Some y → x ≡ y
 some_same x y e = cc
 
@@ -100,6 +101,7 @@ pub step_stands : (token : Token) (line : ℕ) (items : List Item) (s next : Sta
     → deep_nesting_after token line s ≡ Some next → Stands (items ++ (token, line) ∷ []) next.root next.open_elements
 step_stands token line items s next stands h = nested_stands token line items s.root s.open_elements next stands h
 
+-- At the start, nothing is open and there is no root.
 pub starts : Stands [] None []
 starts = none_open [] no_element
 
@@ -109,5 +111,6 @@ finished_stands items None (element ∷ outer) found stands h = absurd (cc)
 finished_stands items (Some root) [] found stands h = subst (λ (e : Element). AreElements items (e ∷ [])) (some_same _ _ h) stands
 finished_stands items (Some root) (element ∷ outer) found stands h = absurd stands
 
+-- Where the items end with a finished root, they are the items of this root.
 pub end_stands : (items : List Item) (s : State) (found : Element) → Stands items s.root s.open_elements → finished_root s ≡ Some found → AreElements items (found ∷ [])
 end_stands items s found stands h = finished_stands items s.root s.open_elements found stands h

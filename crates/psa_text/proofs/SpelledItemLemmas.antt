@@ -13,8 +13,8 @@ use Rattle.psa_text.specs.Steps.{◌>>=◌}
 use Rattle.psa_text.specs.Bytes.{has, begins_name, is_name_start, run_len, skip_blanks}
 use Rattle.psa_text.specs.Reading.{byte_at, name_at, value_at, attribute_at, attributes_at, tag_end_at, tag_at, end_tag_at, markup_at, token_at}
 use Rattle.psa_text.specs.FirstText.{AreOf, IsName, IsAttribute, AreAttributes, no_attribute, one_attribute, IsTag, IsToken, is_start, is_empty, is_end, is_blanks}
-use Rattle.psa_text.proofs.Runs.{run_all, full_run}
-use Rattle.psa_text.proofs.Stands.{some_same, held}
+use Rattle.psa_text.proofs.ByteRunLemmas.{run_all, full_run}
+use Rattle.psa_text.proofs.NestingStateLemmas.{some_same, held}
 
 -- the value of a step that was made
 pub with_ok : {A B P : Type 0} (r : Option A) (f : A → Option B) (y : B) → (r >>= f) ≡ Some y → ((x : A) → r ≡ Some x → f x ≡ Some y → P) → P
@@ -69,6 +69,7 @@ name_takes bytes x h =
     subst (λ (y : List ℕ × List ℕ). IsName y.0 × (bytes ≡ y.0 ++ y.1)) (some_same (take len bytes, drop len bytes) x t.1)
     (record { begins = begins_run bytes tests.0; bytes = run_all Name bytes; bounded = omega (arith, length-take len bytes, bounded) }, run_takes Name bytes)
 
+-- the bytes of a value: of their class, and at most 128
 pub record IsValue (value : List ℕ) : Type 0 where
   pub bytes : AreOf Value value
   pub bounded : length value ≤ 128
@@ -186,6 +187,7 @@ markup_takes (b ∷ bytes) x h =
     (λ slash h1. subst (λ (c : ℕ). Takes (60 ∷ c ∷ bytes) x.0 x.1) (sym (eqb-true b 47 slash)) (end_tag_takes bytes x h1))
     (λ other h1. tag_takes (b ∷ bytes) x h1)
 
+-- What a reader reads is an item, and the bytes are its text and the rest behind it.
 pub token_takes : (bytes : List ℕ) (x : Token × List ℕ) → token_at bytes ≡ Some x → Takes bytes x.0 x.1
 unfolding token_at
 token_takes bytes x h =

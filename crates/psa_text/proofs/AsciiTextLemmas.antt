@@ -1,4 +1,4 @@
--- A first text is ASCII.
+-- A text that the grammar of a first text spells is ASCII.
 use Rattle.std.proofs.Common.{ℕ, ◌<◌, List, [], ◌∷◌, ◌++◌, sym, subst, arith}
 use Rattle.psa_text.specs.declared.bytes.Class.TheVariants.{Blank, Name, Value}
 use Rattle.psa_text.specs.declared.tree.Attribute.{Attribute}
@@ -6,7 +6,7 @@ use Rattle.psa_text.specs.declared.token.Tag.{Tag}
 use Rattle.psa_text.specs.declared.token.Token.{Token}
 use Rattle.psa_text.specs.Tree.{Item}
 use Rattle.psa_text.specs.FirstText.{AreAscii, IsAttribute, AreAttributes, no_attribute, one_attribute, IsTag, IsToken, is_start, is_empty, is_end, is_blanks, AreItems, no_item, and_item}
-use Rattle.psa_text.proofs.Runs.{all_ascii}
+use Rattle.psa_text.proofs.ByteRunLemmas.{all_ascii}
 
 joined : (xs ys : List ℕ) → AreAscii xs → AreAscii ys → AreAscii (xs ++ ys)
 joined [] ys h k = k
@@ -45,6 +45,7 @@ token_ascii _ _ (is_end name blanks is are) =
     joined ((60 ∷ 47 ∷ name) ++ blanks) (62 ∷ []) front (one 62 (omega arith))
 token_ascii _ _ (is_blanks bytes some are) = all_ascii Blank bytes are
 
+-- A text that is spelled by items is ASCII.
 pub items_ascii : (bytes : List ℕ) (items : List Item) → AreItems bytes items → AreAscii bytes
 items_ascii _ _ no_item = tt
 items_ascii _ _ (and_item before items bytes token are is) = joined before bytes (items_ascii before items are) (token_ascii bytes token is)

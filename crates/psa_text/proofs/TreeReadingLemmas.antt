@@ -20,6 +20,7 @@ pub record LeadsTo (bytes : List ℕ) (rest : List ℕ) (line : ℕ) (s : State)
   pub enough : length rest < turns
   pub same : tree_from turns rest line s ≡ tree_of bytes
 
+-- Before the first turn, all bytes lead to the tree of all.
 pub begins : (bytes : List ℕ) (line : ℕ) (s : State) → tree_from (length bytes + 1) bytes line s ≡ tree_of bytes → LeadsTo bytes bytes line s
 begins bytes line s e = record { turns = length bytes + 1; enough = omega arith; same = e }
 
@@ -39,6 +40,7 @@ first_turn : (turns less : ℕ) (bytes : List ℕ) (line : ℕ) (s : State) → 
     → tree_from turns bytes line s ≡ (token_at bytes >>= (λ item. nesting_after item.0 line s >>= (λ next. tree_from less item.1 (line_behind bytes item.1 line) next)))
 first_turn turns less bytes line s e some = ap (λ (n : ℕ). tree_from n bytes line s) e ∙ turn less bytes line s some
 
+-- After a turn, what stands behind its item leads to the same tree.
 pub goes_on : (bytes rest after : List ℕ) (line : ℕ) (s next : State) (token : Token) → LeadsTo bytes rest line s → 0 < length rest → length after < length rest
     → token_at rest ≡ Some (token, after) → nesting_after token line s ≡ Some next → LeadsTo bytes after (line_behind rest after line) next
 goes_on bytes rest after line s next token way some shorter read step =
@@ -68,9 +70,11 @@ at_end zero bytes line s e some = absurd (omega arith)
 at_end (suc turns) [] line s e some = refl
 at_end (suc turns) (b ∷ bytes) line s e some = absurd (omega (arith, e))
 
+-- Where no bytes are left, the tree is the root that is finished.
 pub ended : (bytes rest : List ℕ) (line : ℕ) (s : State) → LeadsTo bytes rest line s → length rest ≡ 0 → tree_of bytes ≡ finished_root s
 ended bytes rest line s way e = sym way.same ∙ at_end way.turns rest line s e (omega (arith, way.enough))
 
+-- The answer gives the tree where there is one, and is a refusal where there is none.
 pub root_or_refused : (found tree : Option Element) → tree ≡ found → Gives {X = Element} (λ root. root) (ok_or found Refused) tree
 root_or_refused None tree e = e
 root_or_refused (Some root) tree e = e

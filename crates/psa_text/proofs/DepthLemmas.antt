@@ -1,4 +1,4 @@
--- No element is deeper than 64.
+-- No element of a tree that is read is deeper than 64.
 use Rattle.std.proofs.Common.{◌≡◌, ℕ, ◌+◌, ◌≤◌, ◌<◌, max, false, List, [], ◌∷◌, ◌++◌, map, length, Option, Some, None, subst, arith}
 use Rattle.std.specs.Option.{IfSome}
 use Rattle.std.specs.Str.{bytes_eq}
@@ -10,7 +10,7 @@ use Rattle.psa_text.specs.declared.token.Token.{Token}
 use Rattle.psa_text.specs.declared.token.Token.TheVariants.{Start, Empty, End, Passed}
 use Rattle.psa_text.specs.Tree.{element_of, greatest, depth_step, depth}
 use Rattle.psa_text.specs.Nesting.{State, with_child, nesting_with_in, deep_nesting_after, is_too_deep, finished_root}
-use Rattle.psa_text.proofs.Stands.{some_same, held}
+use Rattle.psa_text.proofs.NestingStateLemmas.{some_same, held}
 
 depth_roll : (x : Element-F Element) → depth (roll-Element x) ≡ 1 + greatest (map depth x.children)
 depth_roll x = fold-roll-Element ℕ depth_step x
@@ -35,6 +35,7 @@ abbrev pub AreWithin : List Element → Type 0
 AreWithin [] = Unit {0}
 AreWithin (e ∷ outer) = (depth e + length outer ≤ 64) × AreWithin outer
 
+-- the root, and each open element at its depth, is within the limit
 abbrev pub IsWithin : Option Element → List Element → Type 0
 IsWithin root elements = IfSome root (λ e. depth e ≤ 64) × AreWithin elements
 
@@ -61,6 +62,7 @@ nested_within (End name) line root (element ∷ outer) next within deep h =
     subst (λ (s : State). IsWithin s.root s.open_elements) (some_same _ _ test.1) (placed_within element outer root within.1.0 (within.0, within.1.1))
 nested_within Passed line root elements next within deep h = subst (λ (s : State). IsWithin s.root s.open_elements) (some_same _ _ h) within
 
+-- An item that is not too deep keeps the depths within the limit.
 pub step_within : (token : Token) (line : ℕ) (s next : State) → IsWithin s.root s.open_elements → is_too_deep token s ≡ false → deep_nesting_after token line s ≡ Some next → IsWithin next.root next.open_elements
 step_within token line s next within deep h = nested_within token line s.root s.open_elements next within deep h
 
@@ -69,5 +71,6 @@ finished_within None [] found within h = absurd (cc)
 finished_within root (element ∷ outer) found within h = absurd (cc)
 finished_within (Some root) [] found within h = subst (λ (e : Element). depth e ≤ 64) (some_same _ _ h) within.0
 
+-- The root at the end is within the limit of depth.
 pub end_within : (s : State) (found : Element) → IsWithin s.root s.open_elements → finished_root s ≡ Some found → depth found ≤ 64
 end_within s found within h = finished_within s.root s.open_elements found within h

@@ -1,4 +1,4 @@
--- What is read is a first text.
+-- A text within the limit of bytes that is read as a tree is a first text.
 use Rattle.std.proofs.Common.{◌≡◌, ℕ, zero, suc, ◌+◌, ◌-◌, ◌≤◌, cond, eqb, List, [], ◌∷◌, ◌++◌, length, take, Some, refl, sym, ap, subst, ◌∙◌, append_assoc, append-nil, arith, length-append}
 use Rattle.std.proofs.lemmas.List.{take_at}
 use Rattle.std.proofs.lemmas.List.Sums.{sum_by-append}
@@ -9,10 +9,10 @@ use Rattle.psa_text.specs.Bytes.{line_feeds, line_after}
 use Rattle.psa_text.specs.Nesting.{State, at_start, deep_nesting_after, is_too_deep, nesting_after}
 use Rattle.psa_text.specs.Reading.{token_at, tree_from, tree_of}
 use Rattle.psa_text.specs.FirstText.{AreItems, no_item, and_item, IsFirstText}
-use Rattle.psa_text.proofs.Stands.{not_held, Stands, step_stands, starts, end_stands}
-use Rattle.psa_text.proofs.Depths.{IsWithin, step_within, end_within}
-use Rattle.psa_text.proofs.Ascii.{items_ascii}
-use Rattle.psa_text.proofs.Spelled.{with_ok, token_takes}
+use Rattle.psa_text.proofs.NestingStateLemmas.{not_held, Stands, step_stands, starts, end_stands}
+use Rattle.psa_text.proofs.DepthLemmas.{IsWithin, step_within, end_within}
+use Rattle.psa_text.proofs.AsciiTextLemmas.{items_ascii}
+use Rattle.psa_text.proofs.SpelledItemLemmas.{with_ok, token_takes}
 
 -- the bytes spell items that are a document
 pub record Spells (bytes : List ℕ) (root : Element) : Type 0 where
@@ -66,6 +66,7 @@ reads (suc turns) (b ∷ bytes) before line s root read h =
     let whole : before ++ b ∷ bytes ≡ (before ++ more.0) ++ x.1 = ap (λ (bs : List ℕ). before ++ bs) more.2 ∙ sym (append_assoc before more.0 x.1) in
     subst (λ (bs : List ℕ). Spells bs root) (sym whole) (reads turns x.1 (before ++ more.0) _ next root more.1 h2)))
 
+-- A text within the limit of bytes that has a tree is a first text with this tree as its document.
 pub is_first_text : (bytes : List ℕ) (root : Element) → length bytes ≤ 1048576 → tree_of bytes ≡ Some root → IsFirstText bytes root
 is_first_text bytes root bounded h =
     let start : HasRead [] 1 at_start = record { items = []; spelled = no_item; at = refl; stands = starts; within = (tt, tt) } in

@@ -17,6 +17,7 @@ name_ascii b e = grind (arith, nat_tests, e)
 value_ascii : (b : ℕ) → is_value_byte b ≡ true → b < 128
 value_ascii b e = grind (arith, nat_tests, e)
 
+-- Each byte of a class is ASCII.
 pub has_ascii : (class : Class) (b : ℕ) → has class b ≡ true → b < 128
 has_ascii Blank b e = blank_ascii b e
 has_ascii Name b e = name_ascii b e
@@ -27,6 +28,7 @@ run_with : (class : Class) (b : ℕ) (bytes : List ℕ) (t : Bool) → has class
 run_with class b bytes true e h = rw (e, h) refl
 run_with class b bytes false e h = refl
 
+-- All bytes of a run are of its class.
 pub run_all : (class : Class) (bytes : List ℕ) → list_all (has class) (take (run_len class bytes) bytes) ≡ true
 run_all class [] = refl
 run_all class (b ∷ bytes) = run_with class b bytes (has class b) refl (run_all class bytes)
@@ -36,10 +38,12 @@ both true true e = (refl, refl)
 both true false e = absurd cc
 both false b e = absurd cc
 
+-- Bytes of one class are all ASCII.
 pub all_ascii : (class : Class) (bytes : List ℕ) → list_all (has class) bytes ≡ true → AllByRecursion (λ b. b < 128) bytes
 all_ascii class [] e = tt
 all_ascii class (b ∷ bytes) e = let parts = both _ _ e in (has_ascii class b parts.0, all_ascii class bytes parts.1)
 
+-- A run is ASCII.
 pub run_ascii : (class : Class) (bytes : List ℕ) → All (λ b. b < 128) (take (run_len class bytes) bytes)
 run_ascii class bytes = All-from_recursion (λ b. b < 128) _ (all_ascii class _ (run_all class bytes))
 
@@ -51,5 +55,6 @@ run_within : (class : Class) (bytes : List ℕ) → run_len class bytes ≤ leng
 run_within class [] = omega arith
 run_within class (b ∷ bytes) = within_with (run_len class bytes) bytes (has class b) (run_within class bytes)
 
+-- A run is as long as its length says: it ends within the bytes.
 pub full_run : (class : Class) (bytes : List ℕ) → length (take (run_len class bytes) bytes) ≡ run_len class bytes
 full_run class bytes = omega (arith, run_within class bytes, length-take (run_len class bytes) bytes)
