@@ -1,5 +1,5 @@
 -- Tails of members of a family's sides are tails of its members, and calls on the sides are steps of a call.
-use Rattle.std.proofs.Common.{◌≡◌, ℕ, ◌+◌, ◌<◌, ◌≤◌, ◌⊎◌, Bool, true, List, [], ◌∷◌, Result, refl, sym, ◌∙◌, inl, inr, arith, le-ltb, lt-ltb}
+use Rattle.std.proofs.Common.{◌≡◌, ℕ, ◌+◌, ◌<◌, ◌≤◌, ◌⊎◌, true, List, [], ◌∷◌, Result, refl, sym, ◌∙◌, inl, inr, arith, le-ltb, lt-ltb}
 use Rattle.std.proofs.lemmas.Bool.Decides.{eqb_tells}
 use Rattle.psa_nodes.specs.declared.node.Kind.{Kind}
 use Rattle.psa_nodes.specs.declared.node.Kind.TheVariants.{Zbdd}

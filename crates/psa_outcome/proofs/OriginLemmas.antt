@@ -6,13 +6,13 @@ use Rattle.std.proofs.lemmas.Bool.Decides.{eqb_tells}
 use Rattle.psa_nodes.specs.declared.node.Node.{Node}
 use Rattle.psa_nodes.specs.declared.node.Kind.{Kind}
 use Rattle.psa_nodes.specs.declared.node.Kind.TheVariants as node
-use Rattle.psa_nodes.specs.Cofactors.{assigned}
+use Rattle.psa_nodes.specs.Cofactors.{assigned, all_hold, IsCofactorConjunction}
 use Rattle.psa_nodes.specs.Nodes.{AllFit}
 use Rattle.psa_nodes.specs.Readings.{Reading, node_at, reading, truth, has, joined, stands}
 use Rattle.psa_nodes.specs.Tails.{tail_from, IsTailOf}
 use Rattle.psa_nodes.proofs.CallerLemmas.{At, at, stands-at, stands-node, truth-agree, fixed, blind-stands, high-side, low-side, joined-own, joined-other, above-stands, above-head, own-tails}
 use Rattle.psa_model.specs.declared.targets.Target.{Target}
-use Rattle.psa_outcome.specs.Origins.{all_hold, IsCofactorConjunction, IsSourceOf, Origin}
+use Rattle.psa_outcome.specs.Origins.{IsSourceOf, Origin}
 use Rattle.psa_model.specs.Report.{Analysis}
 use Rattle.psa_model.specs.Parts.{Truth}
 

@@ -1,13 +1,13 @@
 -- From which function of which target a node of the run's table comes. (This project's own; cofactors are Shannon's,
 -- cut sets and prime implicants those of Rauzy, Coudert and Madre.)
-use Rattle.std.specs.Prelude.{◌≡◌, ◌≢◌, ◌⊎◌, ◌≤◌, ℕ, Bool, true, List, [], ◌∷◌, Some, All, ⊤, length, filter, nat_lt}
+use Rattle.std.specs.Prelude.{◌≡◌, ◌⊎◌, ◌≤◌, ℕ, true, List, [], ◌∷◌, Some, All, ⊤, length, filter, nat_lt}
 use Rattle.std.specs.List.{slice_get, list_all}
 use Rattle.psa_logic.specs.Sets.{is_ascending, occurs}
-use Rattle.psa_logic.specs.Products.{IsPrimeProduct, IsImplicant, positive_product, rank_of, is_consistent, is_positive}
+use Rattle.psa_logic.specs.Products.{IsImplicant, positive_product, rank_of, is_consistent, is_positive}
 use Rattle.psa_nodes.specs.declared.node.Node.{Node}
 use Rattle.psa_nodes.specs.declared.node.Kind.{Kind}
 use Rattle.psa_nodes.specs.declared.node.Kind.TheVariants as node
-use Rattle.psa_nodes.specs.Cofactors.{cofactor, IsCutOfCofactor}
+use Rattle.psa_nodes.specs.Cofactors.{IsCofactorConjunction, IsCutOfCofactor, IsPrimeOfCofactors}
 use Rattle.psa_nodes.specs.Readings.{Reading, IsSameReading, reading, node_at}
 use Rattle.psa_nodes.specs.Table.{Table}
 use Rattle.psa_nodes.specs.Tails.{AreTailsOf}
@@ -20,25 +20,6 @@ use Rattle.psa_model.specs.declared.targets.Target.{Target}
 use Rattle.psa_model.specs.Ranks.{ranks_of}
 use Rattle.psa_model.specs.Report.{Analysis, ranked_truth}
 use Rattle.psa_model.specs.Parts.{Truth, IsPart}
-
--- ---- cofactors
-
--- the conjunction of the cofactors of f by these assignments, each of the ranks below v
-abbrev pub all_hold : Truth → ℕ → List (ℕ → Bool) → Truth
-all_hold f v assignments s = list_all (λ assignment. cofactor f assignment v s) assignments
-
--- a conjunction of one or more cofactors, each of which fixes exactly the ranks below v
-pub record IsCofactorConjunction (f : Truth) (v : ℕ) (g : Truth) : Type 0 where
-  pub assignments : List (ℕ → Bool)
-  pub some : assignments ≢ []
-  pub same : (s : ℕ → Bool) → g s ≡ all_hold f v assignments s
-
--- a prime implicant of at most `limit` literals of some conjunction of cofactors
-pub record IsPrimeOfCofactors (f : Truth) (limit : ℕ) (product : List ℕ) : Type 0 where
-  pub below : ℕ
-  pub truth : Truth
-  pub cofactors : IsCofactorConjunction f below truth
-  pub prime : IsPrimeProduct truth limit product
 
 -- ---- products
 

@@ -4,9 +4,8 @@ use Rattle.std.proofs.Common.{◌≡◌, ◌≢◌, ℕ, ◌+◌, ◌<◌, ◌�
 use Rattle.std.proofs.lemmas.Bool.Decides.{leb_tells}
 use Rattle.std.proofs.lemmas.List.Folds.{list_all-append}
 use Rattle.psa_logic.specs.Products.{IsPrimeProduct}
-use Rattle.psa_nodes.specs.Cofactors.{assigned, cofactor}
+use Rattle.psa_nodes.specs.Cofactors.{assigned, cofactor, all_hold, IsCofactorConjunction, IsPrimeOfCofactors}
 use Rattle.psa_nodes.proofs.CallerLemmas.{assigned-past, fixed, high-cofactor, low-cofactor}
-use Rattle.psa_prime.specs.Primes.{all_hold, IsCofactorConjunction, IsPrimeOfCofactors}
 use Rattle.psa_prime.proofs.ImplicantLemmas.{Truth, DependsFrom}
 
 -- each cofactor of g by the ranks below one past x is a conjunction of cofactors of f

@@ -8,7 +8,8 @@ use Rattle.psa_nodes.specs.Tails.{IsMember, AreTailsOf}
 use Rattle.psa_nodes.proofs.CallerLemmas.{tails-in}
 use Rattle.psa_bdd.specs.declared.connective.Connective.TheVariants.{And}
 use Rattle.psa_bdd.specs.Combined.{IsCofactors}
-use Rattle.psa_prime.specs.Primes.{IsPrimeOfCofactors, IsPrimeOrigin}
+use Rattle.psa_nodes.specs.Cofactors.{IsPrimeOfCofactors}
+use Rattle.psa_prime.specs.Primes.{IsPrimeOrigin}
 use Rattle.psa_prime.proofs.ImplicantLemmas.{Truth, DependsFrom}
 use Rattle.psa_prime.proofs.ConjunctionLemmas.{IsCofactorSide, side-cofactors, side-prime, own-prime, pair-cofactors}
 

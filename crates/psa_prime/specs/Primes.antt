@@ -1,7 +1,6 @@
 -- Prime implicants of a decision diagram (Coudert and Madre): from where the nodes of their families come, what
 -- they are remembered by, and what a side of a decision gives.
-use Rattle.std.specs.Prelude.{◌≡◌, ◌≢◌, ◌↔◌, ℕ, Bool, true, List, []}
-use Rattle.std.specs.List.{list_all}
+use Rattle.std.specs.Prelude.{◌≡◌, ◌↔◌, ℕ, Bool, true, List}
 use Rattle.psa_logic.specs.Products.{IsImplicant, IsPrimeProduct}
 use Rattle.psa_nodes.specs.declared.node.Kind.{Kind}
 use Rattle.psa_nodes.specs.declared.node.Kind.TheVariants.{Bdd, Zbdd}
@@ -11,26 +10,8 @@ use Rattle.psa_nodes.specs.declared.node.MemoKey.{MemoKey}
 use Rattle.psa_nodes.specs.declared.node.TheConstants.MemoKey.{NO_RIGHT}
 use Rattle.psa_nodes.specs.declared.node.Operation.TheVariants.{Primes}
 use Rattle.psa_nodes.specs.Readings.{Reading, truth, has, stands}
-use Rattle.psa_nodes.specs.Cofactors.{cofactor}
+use Rattle.psa_nodes.specs.Cofactors.{IsCofactorConjunction, IsPrimeOfCofactors}
 use Rattle.psa_nodes.specs.Tails.{AreTailsOf}
-
--- the conjunction of cofactors of f by these assignments, each of the ranks below v
-abbrev pub all_hold : ((ℕ → Bool) → Bool) → ℕ → List (ℕ → Bool) → (ℕ → Bool) → Bool
-all_hold f v assignments s = list_all (λ assignment. cofactor f assignment v s) assignments
-
--- a conjunction of one or more such cofactors
-pub record IsCofactorConjunction (f : (ℕ → Bool) → Bool) (v : ℕ) (g : (ℕ → Bool) → Bool)
-    : Type 0 where
-  pub assignments : List (ℕ → Bool)
-  pub some : assignments ≢ []
-  pub same : (s : ℕ → Bool) → g s ≡ all_hold f v assignments s
-
--- a prime implicant of at most `limit` literals of some conjunction of cofactors
-pub record IsPrimeOfCofactors (f : (ℕ → Bool) → Bool) (limit : ℕ) (product : List ℕ) : Type 0 where
-  pub below : ℕ
-  pub truth : (ℕ → Bool) → Bool
-  pub cofactors : IsCofactorConjunction f below truth
-  pub prime : IsPrimeProduct truth limit product
 
 -- Where a node comes from: a decision diagram reads as a conjunction of cofactors by assignments of the ranks
 -- below its variable; each member of a family is the tail, at its variable, of a prime implicant within the
