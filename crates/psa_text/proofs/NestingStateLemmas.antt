@@ -101,7 +101,7 @@ pub step_stands : (token : Token) (line : ℕ) (items : List Item) (s next : Sta
     → deep_nesting_after token line s ≡ Some next → Stands (items ++ (token, line) ∷ []) next.root next.open_elements
 step_stands token line items s next stands h = nested_stands token line items s.root s.open_elements next stands h
 
--- At the start, nothing is open and there is no root.
+-- Before the first item, nothing is open and there is no root.
 pub starts : Stands [] None []
 starts = none_open [] no_element
 

@@ -20,9 +20,11 @@ use Rattle.psa_words.proofs.ClapWalkLemmas.{AllTexts, words_agree}
 unfoldable pub built_option : Setting → Rule
 built_option setting = filled (option_rule setting)
 
+-- the argument for files, as the command is built
 unfoldable pub built_file : Rule
 built_file = with_index 1 (filled file_rule)
 
+-- the program's command, as it is built
 unfoldable pub top : Shape
 top = (built scram).top
 
