@@ -1,0 +1,9 @@
+pub mod InstructionForms
+pub mod TestForms
+pub mod Carrying
+pub mod Gathering
+pub mod BranchSteps
+pub mod Lists
+pub mod References
+pub mod Grouping
+pub mod FirstFaults

@@ -1,0 +1,5 @@
+pub mod TakenForks
+pub mod Walks
+pub mod SequenceGroups
+pub mod Answers
+pub mod Marks
