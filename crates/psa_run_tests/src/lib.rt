@@ -1,5 +1,5 @@
-//! Tests of the public calls of psa_first_reader, psa_plain and psa_engine: the reading of a first model,
-//! its evaluation, and whole runs.
+//! Tests of the public calls of psa_first_reader, psa_plain, psa_walk and psa_engine: the reading of a
+//! first model, its evaluation, the targets of event trees, and whole runs.
 #![tactic(auto)]
 
 #[cfg(test)]
@@ -8,3 +8,5 @@ mod evaluation;
 mod reading;
 #[cfg(test)]
 mod runs;
+#[cfg(test)]
+mod walks;

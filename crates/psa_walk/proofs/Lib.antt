@@ -1,9 +1,8 @@
-pub mod InstructionForms
 pub mod TestForms
-pub mod Carrying
-pub mod Gathering
-pub mod BranchSteps
-pub mod Lists
-pub mod References
-pub mod Grouping
-pub mod FirstFaults
+pub mod CarriedInstructionLemmas
+pub mod GatheredPathLemmas
+pub mod BranchStepLemmas
+pub mod PlaceLemmas
+pub mod TopEventLemmas
+pub mod SequenceGroupLemmas
+pub mod FirstFaultLemmas

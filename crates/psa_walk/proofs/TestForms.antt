@@ -13,16 +13,19 @@ list_any-map : {A B : Type 0} (p : B → Bool) (f : A → B) (xs : List A) → l
 list_any-map p f [] = refl
 list_any-map p f (x ∷ xs) = ap (λ b. p (f x) || b) (list_any-map p f xs)
 
+-- all of several tests
 pub all-true : (initiating : ℕ) (forks : List Fork) (tests : List Test) → is_true_in initiating forks (variant.All tests) ≡ list_all (λ test. is_true_in initiating forks test) tests
 all-true initiating forks tests =
     ap (is_true_in initiating forks) (sym (rolls-All tests)) ∙ fold-roll-Test Bool (test_step initiating forks) (Test-F.All tests)
     ∙ list_all-map (λ b. b) (is_true_in initiating forks) tests
 
+-- some of several tests
 pub any-true : (initiating : ℕ) (forks : List Fork) (tests : List Test) → is_true_in initiating forks (variant.Any tests) ≡ list_any (λ test. is_true_in initiating forks test) tests
 any-true initiating forks tests =
     ap (is_true_in initiating forks) (sym (rolls-Any tests)) ∙ fold-roll-Test Bool (test_step initiating forks) (Test-F.Any tests)
     ∙ list_any-map (λ b. b) (is_true_in initiating forks) tests
 
+-- none of several tests
 pub not-true : (initiating : ℕ) (forks : List Fork) (tests : List Test) → is_true_in initiating forks (variant.Not tests) ≡ not (list_any (λ test. is_true_in initiating forks test) tests)
 not-true initiating forks tests =
     ap (is_true_in initiating forks) (sym (rolls-Not tests)) ∙ fold-roll-Test Bool (test_step initiating forks) (Test-F.Not tests)

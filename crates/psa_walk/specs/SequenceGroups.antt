@@ -13,6 +13,7 @@ grouped [] a = record { sequence = a.sequence; paths = a.path ∷ [] } ∷ []
 grouped (g ∷ gs) a =
     if a.sequence.0 == g.sequence.0 then record g { paths = g.paths ++ a.path ∷ [] } ∷ gs else g ∷ grouped gs a
 
+-- the groups after all paths
 abbrev pub all_grouped : List SequenceGroup → List Arrived → List SequenceGroup
 all_grouped gs [] = gs
 all_grouped gs (a ∷ more) = all_grouped (grouped gs a) more

@@ -1,17 +1,25 @@
 ghost use Rattle.std.specs.Prelude.{◌≡◌, OnOk};
 ghost use Rattle.std.specs.List.{slice_get};
-ghost use Rattle.psa_model.specs.Paths.{arrivals, below, end_arrivals, fork_arrivals, sequence_arrivals, link_arrivals, linked_arrivals};
+ghost use Rattle.psa_model.specs.Paths.{
+  arrivals,
+  below,
+  end_arrivals,
+  fork_arrivals,
+  link_arrivals,
+  linked_arrivals,
+  sequence_arrivals,
+};
 ghost use Rattle.psa_model.specs.declared.walks.BranchEnd.TheViews.{out-BranchEnd};
 ghost use Rattle.psa_walk.specs.Walks.{Gathers};
 
-use crate::instructions::carry_out_all;
 use crate::gathered::Gathered;
-use crate::walk::{Stop, Walk};
+use crate::instructions::carry_out_all;
 use crate::travelled::Travelled;
+use crate::walk::{Stop, Walk};
 use psa_model::{Branch, BranchEnd, ForkPath, Functional, Sequence, SequenceId, TreeId};
 use sqlite_items::at;
 
-/// Walks a branch, with at most `depth` branches on each way.
+/// Walks a branch, with at most `depth` branches on each way: it calls itself so deep at most.
 #[cycle(walking)]
 pub fn walk_branch<'a>(
     walk: &Walk<'a>,
@@ -21,7 +29,9 @@ pub fn walk_branch<'a>(
     left: u32,
     depth: u32,
 ) -> Result<(), Stop>
-    ensures gathered { Gathers (arrivals depth walk.now.model.now walk.now.initiating.0 left branch.now travelled.old) gathered.old result gathered.new }
+    ensures gathered { Gathers
+        (arrivals depth walk.now.model.now walk.now.initiating.0 left branch.now travelled.old)
+        gathered.old result gathered.new }
     ensures back { OnOk result (travelled.new ≡ travelled.old) }
 {
     if depth == 0 {
@@ -44,14 +54,26 @@ fn walk_end<'a>(
     left: u32,
     depth: u32,
 ) -> Result<(), Stop>
-    ensures gathered { Gathers (end_arrivals walk.now.model.now walk.now.initiating.0 (below depth walk.now.model.now walk.now.initiating.0) left travelled.old (out-BranchEnd end.now)) gathered.old result gathered.new }
+    ensures gathered { Gathers
+        (end_arrivals walk.now.model.now walk.now.initiating.0
+        (below depth walk.now.model.now walk.now.initiating.0)
+        left travelled.old (out-BranchEnd end.now))
+        gathered.old result gathered.new }
     ensures back { OnOk result (travelled.new ≡ travelled.old) }
 {
     let model = walk.model;
     match end {
         BranchEnd::Fork(functional, paths) => {
             match at(model.functionals.as_slice(), functional.0 as usize) {
-                Some(event) => walk_fork(walk, travelled, gathered, event, paths.as_slice(), left, depth),
+                Some(event) => walk_fork(
+                    walk,
+                    travelled,
+                    gathered,
+                    event,
+                    paths.as_slice(),
+                    left,
+                    depth,
+                ),
                 None => Ok(()),
             }
         }
@@ -77,7 +99,10 @@ fn walk_fork<'a>(
     left: u32,
     depth: u32,
 ) -> Result<(), Stop>
-    ensures gathered { Gathers (fork_arrivals (below depth walk.now.model.now walk.now.initiating.0) left travelled.old paths.now event.now) gathered.old result gathered.new }
+    ensures gathered { Gathers
+        (fork_arrivals (below depth walk.now.model.now walk.now.initiating.0)
+        left travelled.old paths.now event.now)
+        gathered.old result gathered.new }
     ensures back { OnOk result (travelled.new ≡ travelled.old) }
 {
     for path in paths {
@@ -99,7 +124,11 @@ fn walk_sequence<'a>(
     left: u32,
     depth: u32,
 ) -> Result<(), Stop>
-    ensures gathered { Gathers (sequence_arrivals walk.now.model.now walk.now.initiating.0 (below depth walk.now.model.now walk.now.initiating.0) id left travelled.old sequence.now) gathered.old result gathered.new }
+    ensures gathered { Gathers
+        (sequence_arrivals walk.now.model.now walk.now.initiating.0
+        (below depth walk.now.model.now walk.now.initiating.0)
+        id left travelled.old sequence.now)
+        gathered.old result gathered.new }
     ensures back { OnOk result (travelled.new ≡ travelled.old) }
 {
     let steps = travelled.len();
@@ -120,7 +149,11 @@ fn walk_link<'a>(
     left: u32,
     depth: u32,
 ) -> Result<(), Stop>
-    ensures gathered { Gathers (link_arrivals walk.now.model.now (below depth walk.now.model.now walk.now.initiating.0) id link left travelled.old) gathered.old result gathered.new }
+    ensures gathered { Gathers
+        (link_arrivals walk.now.model.now
+        (below depth walk.now.model.now walk.now.initiating.0)
+        id link left travelled.old)
+        gathered.old result gathered.new }
     ensures back { OnOk result (travelled.new ≡ travelled.old) }
 {
     match link {
@@ -139,14 +172,24 @@ fn follow_link<'a>(
     left: u32,
     depth: u32,
 ) -> Result<(), Stop>
-    ensures gathered { Gathers (linked_arrivals (below depth walk.now.model.now walk.now.initiating.0) (slice_get walk.now.model.now.event_trees tree.0) left travelled.old) gathered.old result gathered.new }
+    ensures gathered { Gathers
+        (linked_arrivals (below depth walk.now.model.now walk.now.initiating.0)
+        (slice_get walk.now.model.now.event_trees tree.0) left travelled.old)
+        gathered.old result gathered.new }
     ensures back { OnOk result (travelled.new ≡ travelled.old) }
 {
     if left == 0 {
         return Err(Stop::LongPath);
     }
     match at(walk.model.event_trees.as_slice(), tree.0 as usize) {
-        Some(event_tree) => walk_branch(walk, travelled, gathered, &event_tree.start, left - 1, depth),
+        Some(event_tree) => walk_branch(
+            walk,
+            travelled,
+            gathered,
+            &event_tree.start,
+            left - 1,
+            depth,
+        ),
         None => Ok(()),
     }
 }

@@ -22,7 +22,8 @@ pub fn holds(test: &Test, initiating: InitiatingId, travelled: &Travelled) -> bo
 /// Whether all tests are true.
 #[cycle(condition)]
 fn all_hold(tests: &[Test], initiating: InitiatingId, travelled: &Travelled) -> bool
-    ensures { result ≡ list_all (λ test. is_true_in initiating.0 travelled.now.forks test) tests.now }
+    ensures { result
+        ≡ list_all (λ test. is_true_in initiating.0 travelled.now.forks test) tests.now }
 {
     for test in tests {
         if !holds(test, initiating, travelled) {
@@ -35,7 +36,8 @@ fn all_hold(tests: &[Test], initiating: InitiatingId, travelled: &Travelled) -> 
 /// Whether some test is true.
 #[cycle(condition)]
 fn any_holds(tests: &[Test], initiating: InitiatingId, travelled: &Travelled) -> bool
-    ensures { result ≡ list_any (λ test. is_true_in initiating.0 travelled.now.forks test) tests.now }
+    ensures { result
+        ≡ list_any (λ test. is_true_in initiating.0 travelled.now.forks test) tests.now }
 {
     for test in tests {
         if holds(test, initiating, travelled) {

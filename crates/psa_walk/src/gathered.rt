@@ -61,7 +61,9 @@ impl Gathered {
 
     /// A path arrives.
     pub fn arrive(&mut self, sequence: SequenceId, travelled: &Travelled) -> Result<(), Stop>
-        ensures { Gathers (arrives (record { sequence = sequence; path = travelled.now.steps }) ∷ []) self.old result self.new }
+        ensures { Gathers
+            (arrives (record { sequence = sequence; path = travelled.now.steps }) ∷ [])
+            self.old result self.new }
     {
         if self.left == 0 {
             return Err(Stop::TooManyPaths);

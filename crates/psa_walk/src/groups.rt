@@ -8,14 +8,14 @@ use psa_model::{InitiatingId, Path, SequenceId, Target, Targets};
 use psa_text::{Items, OutOfMemory};
 use std::alloc::Global;
 
-/// A sequence with the paths that arrived at it.
+/// A sequence with the paths that arrived at it, in order.
 #[derive(Drop)]
 pub struct SequenceGroup {
     pub sequence: SequenceId,
     pub paths: Items<Path>,
 }
 
-/// Puts a path to those of its sequence, whose place in the list is that of its number in the set.
+/// Adds a path to its sequence's group, whose place in the list is that of its number in the set.
 fn add(
     alloc: Global,
     groups: &mut Vec<SequenceGroup>,
@@ -59,7 +59,8 @@ pub fn list_sequences(
     initiating: InitiatingId,
     arrived: Vec<Arrived>,
 ) -> Result<(), OutOfMemory>
-    ensures { OnOk result (targets.new ≡ targets.old ++ sequence_targets initiating.0 arrived.items) }
+    ensures { OnOk result
+        (targets.new ≡ targets.old ++ sequence_targets initiating.0 arrived.items) }
 {
     for one in put_together(alloc, arrived)? {
         let SequenceGroup { sequence, paths } = one;

@@ -3,13 +3,13 @@ ghost use Rattle.psa_model.specs.Paths.{carried, with_step};
 ghost use Rattle.psa_walk.specs.Walks.{Carries};
 
 use crate::conditions::holds;
-use crate::walk::{Stop, Walk};
 use crate::travelled::Travelled;
+use crate::walk::{Stop, Walk};
 use psa_model::{Instruction, PathStep};
 use sqlite_items::at;
 
 /// Carries out instructions on a path where `left` may be, and gives how many then still may.
-/// A block in a block counts, so this is at most as deep as `left`.
+/// A block in a block counts, so this calls itself at most as deep as `left`.
 #[cycle(carrying)]
 pub fn carry_out_all(
     walk: &Walk,
@@ -17,7 +17,9 @@ pub fn carry_out_all(
     instructions: &[Instruction],
     left: u32,
 ) -> Result<u32, Stop>
-    ensures carried { Carries (carried left walk.now.model.now walk.now.initiating.0 instructions.now travelled.old) result travelled.new }
+    ensures carried { Carries
+        (carried left walk.now.model.now walk.now.initiating.0 instructions.now travelled.old)
+        result travelled.new }
     ensures left { IfOk result (λ rest. rest ≤ left) }
 {
     let mut rest = left;
@@ -29,8 +31,15 @@ pub fn carry_out_all(
 
 /// Carries out one instruction.
 #[cycle(carrying)]
-fn carry_out(walk: &Walk, travelled: &mut Travelled, instruction: &Instruction, left: u32) -> Result<u32, Stop>
-    ensures carried { Carries (carried left walk.now.model.now walk.now.initiating.0 (instruction.now ∷ []) travelled.old) result travelled.new }
+fn carry_out(
+    walk: &Walk,
+    travelled: &mut Travelled,
+    instruction: &Instruction,
+    left: u32,
+) -> Result<u32, Stop>
+    ensures carried { Carries
+        (carried left walk.now.model.now walk.now.initiating.0 (instruction.now ∷ []) travelled.old)
+        result travelled.new }
     ensures left { IfOk result (λ rest. rest ≤ left) }
 {
     if left == 0 {
@@ -38,7 +47,11 @@ fn carry_out(walk: &Walk, travelled: &mut Travelled, instruction: &Instruction, 
     }
     match instruction {
         Instruction::Collect(id) => take_step(travelled, PathStep::Collect(*id), left),
-        Instruction::SetHouse(house, state) => take_step(travelled, PathStep::Set(*house, *state), left),
+        Instruction::SetHouse(house, state) => take_step(
+            travelled,
+            PathStep::Set(*house, *state),
+            left,
+        ),
         Instruction::Block(inner) => carry_out_all(walk, travelled, inner.as_slice(), left - 1),
         Instruction::Rule(id) => match at(walk.model.rules.as_slice(), id.0 as usize) {
             Some(rule) => carry_out_all(walk, travelled, rule.instructions.as_slice(), left - 1),
@@ -57,7 +70,9 @@ fn carry_out(walk: &Walk, travelled: &mut Travelled, instruction: &Instruction, 
 /// Takes a step, which is one instruction.
 fn take_step(travelled: &mut Travelled, step: PathStep, left: u32) -> Result<u32, Stop>
     requires { 0 < left }
-    ensures carried { Carries (Some (record { left = left - 1; along = with_step travelled.old step })) result travelled.new }
+    ensures carried { Carries
+        (Some (record { left = left - 1; along = with_step travelled.old step }))
+        result travelled.new }
     ensures left { IfOk result (λ rest. rest ≤ left) }
 {
     travelled.push(step)?;

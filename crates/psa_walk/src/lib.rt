@@ -1,4 +1,5 @@
-//! The targets of a model: its top events, and the sequences of its event trees with all paths to them.
+//! The targets of a model: its top events, and the sequences of its event trees with all paths to
+//! them.
 #![tactic(auto)]
 
 mod branches;

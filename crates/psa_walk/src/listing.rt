@@ -54,7 +54,8 @@ fn fault(alloc: Global, kind: FaultKind, initiating: &Initiating) -> WalkError
     }
 }
 
-/// Walks an initiating event where `left` paths may arrive, lists its sequences, and gives how many then still may.
+/// Walks an initiating event where `left` paths may arrive, lists its sequences, and gives how many
+/// then still may.
 fn walk_event(
     alloc: Global,
     model: &Model,
@@ -63,9 +64,13 @@ fn walk_event(
     left: u32,
     targets: &mut Targets,
 ) -> Result<u32, WalkError>
-    ensures listed { OnOk result (targets.new ≡ targets.old ++ sequence_targets place (arrived_in (paths_of model.now place initiating.now))) }
-    ensures goes_on { IfOk result (λ rest. GoesOn left rest initiating.now (paths_of model.now place initiating.now)) }
-    ensures fails { IfErr result (λ e. Tells e (λ f. Fails left initiating.now (paths_of model.now place initiating.now) f)) }
+    ensures listed { OnOk result (targets.new
+        ≡ targets.old
+        ++ sequence_targets place (arrived_in (paths_of model.now place initiating.now))) }
+    ensures goes_on { IfOk result
+        (λ rest. GoesOn left rest initiating.now (paths_of model.now place initiating.now)) }
+    ensures fails { IfErr result
+        (λ e. Tells e (λ f. Fails left initiating.now (paths_of model.now place initiating.now) f)) }
 {
     let Some(tree) = initiating.tree else {
         return Ok(left);
@@ -79,7 +84,14 @@ fn walk_event(
     };
     let mut travelled = Travelled::new(alloc);
     let mut gathered = Gathered::new(alloc, left);
-    match walk_branch(&walk, &mut travelled, &mut gathered, &tree.start, MAX_INSTRUCTIONS, MAX_DEPTH) {
+    match walk_branch(
+        &walk,
+        &mut travelled,
+        &mut gathered,
+        &tree.start,
+        MAX_INSTRUCTIONS,
+        MAX_DEPTH,
+    ) {
         Ok(()) => {}
         Err(Stop::LongPath) => return Err(fault(alloc, FaultKind::LongPath, initiating)),
         Err(Stop::TooManyPaths) => return Err(fault(alloc, FaultKind::TooManyPaths, initiating)),
@@ -90,10 +102,18 @@ fn walk_event(
     Ok(rest)
 }
 
-/// The targets of a model: its top events in document order, then for each initiating event its sequences in the
-/// order of their first path, each with all its paths in order.
-/// A fault is answered exactly where a path would carry out more than 256 instructions or more than 65,536 paths
-/// would arrive, the first in the order of the walk, with the line and name of the initiating event.
+/// The targets of a model: its top events in document order, then for each initiating event its
+/// sequences in the order of their first path, each with all its paths in order (event trees of the
+/// Open-PSA Model Exchange Format 2.0d; an initiating event without an event tree has none).
+///
+/// A fault is answered exactly where a path would carry out more than `MAX_INSTRUCTIONS` instructions,
+/// blocks, rules, conditionals and links counted each time, or more than `MAX_PATHS` paths would
+/// arrive, over all initiating events: the first in the order of the walk, with the line and name of
+/// the initiating event. Want of memory is answered as `Memory`.
+///
+/// Branches are walked at most `MAX_DEPTH` deep, and instructions in one another at most
+/// `MAX_INSTRUCTIONS` deep: so deep do the calls nest, whatever the model is, beside formulas and tests,
+/// which nest as deep as they are written.
 pub fn targets(alloc: Global, model: &Model) -> Result<Targets, WalkError>
     requires gates { length model.now.gates ≤ 2 ^ 32 }
     requires initiatings { length model.now.initiatings ≤ 2 ^ 32 }

@@ -3,6 +3,7 @@ ghost use Rattle.psa_model.specs.Tests.{took};
 
 use psa_model::{Path, PathStep};
 use psa_text::{Items, OutOfMemory, Text};
+use smallvec::SmallVec;
 use std::alloc::Global;
 use std::marker::Model;
 
@@ -13,10 +14,13 @@ pub struct Taken<'a> {
     pub state: &'a Text,
 }
 
+/// So many steps are kept without an allocation: most paths are short.
+const SHORT_PATH: usize = 16;
+
 /// What goes along a path: its steps, and the forks taken so far.
 #[derive(Drop)]
 pub struct Travelled<'a> {
-    steps: Vec<PathStep>,
+    steps: SmallVec<PathStep, SHORT_PATH>,
     forks: Vec<Taken<'a>>,
 }
 
@@ -35,7 +39,7 @@ impl<'a> Travelled<'a> {
         ensures { result ≡ record { steps = []; forks = [] } }
     {
         Travelled {
-            steps: Vec::new(alloc),
+            steps: SmallVec::new(alloc),
             forks: Vec::new(alloc),
         }
     }
@@ -56,7 +60,8 @@ impl<'a> Travelled<'a> {
 
     /// One step more.
     pub fn push(&mut self, step: PathStep) -> Result<(), OutOfMemory>
-        ensures { OnOk result (self.new ≡ record self.old { steps = self.old.steps ++ step ∷ [] }) }
+        ensures { OnOk result
+            (self.new ≡ record self.old { steps = self.old.steps ++ step ∷ [] }) }
     {
         self.steps.push(step)?;
         Ok(())
@@ -71,7 +76,9 @@ impl<'a> Travelled<'a> {
 
     /// One fork more.
     pub fn take_fork(&mut self, name: &'a Text, state: &'a Text) -> Result<(), OutOfMemory>
-        ensures { OnOk result (self.new ≡ record self.old { forks = self.old.forks ++ (record { name = name.now; state = state.now }) ∷ [] }) }
+        ensures { OnOk result (self.new ≡ record self.old {
+          forks = self.old.forks ++ (record { name = name.now; state = state.now }) ∷ [];
+        }) }
     {
         self.forks.push(Taken { name, state })?;
         Ok(())
@@ -79,7 +86,8 @@ impl<'a> Travelled<'a> {
 
     /// Without the last fork.
     pub fn leave_fork(&mut self)
-        ensures { self.new ≡ record self.old { forks = take (length self.old.forks - 1) self.old.forks } }
+        ensures { self.new
+            ≡ record self.old { forks = take (length self.old.forks - 1) self.old.forks } }
     {
         let _last = self.forks.pop();
     }

@@ -5,7 +5,7 @@ use Rattle.std.specs.List.{list_any, position_or_len}
 use Rattle.psa_model.specs.declared.targets.PathStep.{PathStep}
 use Rattle.psa_walk.specs.declared.groups.SequenceGroup.{SequenceGroup}
 use Rattle.psa_walk.specs.SequenceGroups.{numbers}
-use Rattle.psa_walk.proofs.Grouping.{new-grouped, known-grouped, numbers-set}
+use Rattle.psa_walk.proofs.SequenceGroupLemmas.{new-grouped, known-grouped, numbers-set}
 use Rattle.psa_walk.proofs.groups.add.Goals as goal
 
 was-new : (n b : Bool) → n ≡ not b → n ≡ true → b ≡ false

@@ -3,7 +3,7 @@ use Rattle.std.specs.Vec.Iter.{into_iter_items}
 use Rattle.psa_model.specs.declared.targets.Target.{Target}
 use Rattle.psa_walk.specs.declared.groups.SequenceGroup.{SequenceGroup}
 use Rattle.psa_walk.specs.SequenceGroups.{target_of}
-use Rattle.psa_walk.proofs.Grouping.{targets-grouped}
+use Rattle.psa_walk.proofs.SequenceGroupLemmas.{targets-grouped}
 use Rattle.psa_walk.proofs.groups.list_sequences.Goals as goal
 
 nothing_left : {X : Type 0} (l : List X) → length l ≡ 0 → l ≡ []

@@ -1,7 +1,7 @@
 use Rattle.std.proofs.Common.{◌≡◌, ◌-◌, [], sym, ap, ◌∙◌, refl, arith}
 use Rattle.std.specs.List.{slice_get}
 use Rattle.std.proofs.lemmas.Result.{err_from_is_err_and}
-use Rattle.psa_walk.proofs.Carrying.{carried-nil, carried-none, carried-collect, carried-set, carried-block, carried-rule, carried-if, carries-as, one-more, one-stops, all-carried}
+use Rattle.psa_walk.proofs.CarriedInstructionLemmas.{carried-nil, carried-none, carried-collect, carried-set, carried-block, carried-rule, carried-if, carries-as, one-more, one-stops, all-carried}
 use Rattle.psa_walk.proofs.instructions.+carrying.Goals as goal
 
 pub carry_out-returns-then-left-eq0-clause-carried : goal.carry_out-returns-then-left-eq0-clause-carried

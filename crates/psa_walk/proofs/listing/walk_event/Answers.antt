@@ -14,7 +14,7 @@ use Rattle.psa_model.specs.Paths.{Arrived, Travelled, Arrival, arrivals, arrival
 use Rattle.psa_model.specs.declared.limits.TheConstants.{MAX_INSTRUCTIONS}
 use Rattle.psa_walk.specs.Walks.{GatheredPaths, gather}
 use Rattle.psa_walk.specs.Answers.{Tells, Fails, GoesOn}
-use Rattle.psa_walk.proofs.FirstFaults.{gather-arrived, gather-goes_on, gather-long, gather-many}
+use Rattle.psa_walk.proofs.FirstFaultLemmas.{gather-arrived, gather-goes_on, gather-long, gather-many}
 use Rattle.psa_walk.proofs.listing.walk_event.Goals as goal
 
 tells-weaker : (e : WalkError) (P Q : ModelFault → Type 0) → ((f : ModelFault) → P f → Q f) → Tells e P → Tells e Q

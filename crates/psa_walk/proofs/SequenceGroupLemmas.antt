@@ -1,4 +1,4 @@
--- Paths put together one by one are the sequences in the order of their first path, each with its paths.
+-- Paths that are put together one by one are the sequences in the order of their first path, each with its paths.
 use Rattle.std.proofs.Common.{◌≡◌, ◌<◌, suc, zero, length, get_or, set, arith, ◌==◌, ◌&&◌, ◌||◌, ℕ, Bool, true, false, List, [], ◌∷◌, ◌++◌, map, not, filter, if◌then◌else◌, nat_eq, refl, sym, ap, ap₂, ◌∙◌, subst, inl, inr, append_assoc}
 use Rattle.std.proofs.lemmas.Bool.{false≢true, and_parts, and_from, cases_Bool, eq-eqb, ne_eqb}
 use Rattle.std.proofs.lemmas.Bool.Decides.{eqb_tells}
@@ -105,6 +105,7 @@ known-grouped a (x ∷ gs) (suc i) g p lt is = elim (eqb_tells a.sequence.0 x.se
       grouped-other a x gs q.1 ∙ ap (λ (l : List SequenceGroup). x ∷ l) (known-grouped a gs i g (omega (arith, there)) (omega (arith, lt)) is)
 ]
 
+-- a sequence that has no group yet gets one at the end
 pub new-grouped : (a : Arrived) (gs : List SequenceGroup) → is_in (numbers gs) a.sequence.0 ≡ false → grouped gs a ≡ gs ++ record { sequence = a.sequence; paths = a.path ∷ [] } ∷ []
 new-grouped a [] h = refl
 new-grouped a (g ∷ gs) h =

@@ -1,4 +1,4 @@
--- What the walk met is the first fault of the paths, or all of them arrived.
+-- Where the walk stops is the first fault of the paths; else all of them arrived.
 use Rattle.std.proofs.Common.{◌≡◌, ◌-◌, ◌==◌, ℕ, List, [], ◌∷◌, ◌++◌, Option, Some, None, Result, Ok, Err, map, refl, sym, ap, ◌∙◌, subst, inl, inr, append_assoc}
 use Rattle.std.proofs.lemmas.Bool.Decides.{eqb_tells}
 use Rattle.psa_model.specs.declared.fault.FaultKind.TheVariants.{LongPath, TooManyPaths}
@@ -27,6 +27,7 @@ gather-arrived (arrives a ∷ xs) left rest before now e = elim (eqb_tells left 
   | inr p ↦ gather-arrived xs (left - 1) rest (before ++ a ∷ []) now (rw p.0 at e) ∙ append_assoc before (a ∷ []) (arrived_in xs)
 ]
 
+-- after paths that all arrived the first fault is that of what follows
 pub gather-goes_on : (i : Initiating) (xs : List Arrival) (left rest : ℕ) (before now : List Arrived) → gather xs (record { left = left; arrived = before }) ≡ Ok (record { left = rest; arrived = now }) → GoesOn left rest i xs
 gather-goes_on i [] left rest before now e more =
     ap (λ n. first_fault n more) (ap (λ (f : GatheredPaths). f.left) (same_findings (record { left = left; arrived = before }) (record { left = rest; arrived = now }) e))
@@ -45,6 +46,7 @@ gather-long i (arrives a ∷ xs) left before e more = elim (eqb_tells left 0) [
   | inr p ↦ rw p.0 (gather-long i xs (left - 1) (before ++ a ∷ []) (rw p.0 at e) more)
 ]
 
+-- a path too many is the first fault, whatever follows
 pub gather-many : (i : Initiating) (xs : List Arrival) (left : ℕ) (before : List Arrived) → gather xs (record { left = left; arrived = before }) ≡ Err stop.TooManyPaths → Fails left i xs (walk_fault_at TooManyPaths i)
 gather-many i [] left before e more = absurd (cc)
 gather-many i (too_long ∷ xs) left before e more = absurd (cc)
