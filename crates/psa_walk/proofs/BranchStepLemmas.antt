@@ -1,10 +1,9 @@
 -- The steps of the walk of branches.
 use Rattle.std.specs.Prelude.{⊤}
-use Rattle.std.proofs.Common.{◌≡◌, ◌<◌, ◌≤◌, ◌-◌, ◌+◌, ℕ, List, [], ◌∷◌, ◌++◌, Option, Some, None, Result, Ok, Err, take, drop, length, get_or, length-append, refl, sym, ap, ◌∙◌, subst, arith}
+use Rattle.std.proofs.Common.{◌≡◌, ◌<◌, ◌≤◌, ◌-◌, ◌+◌, ℕ, List, [], ◌∷◌, ◌++◌, Option, Result, Ok, Err, take, drop, length, get_or, length-append, refl, sym, ap, ◌∙◌, arith}
 use Rattle.std.proofs.Math.Seq.{take-append_seam}
 use Rattle.std.proofs.lemmas.List.{drop_more, drop_all}
 use Rattle.std.proofs.lemmas.Bool.{eq-eqb, ne_eqb}
-use Rattle.std.specs.List.{slice_get}
 use Rattle.psa_model.specs.declared.ids.SequenceId.{SequenceId}
 use Rattle.psa_model.specs.declared.ids.TreeId.{TreeId}
 use Rattle.psa_model.specs.declared.model.EventTree.{EventTree}
@@ -12,18 +11,16 @@ use Rattle.psa_model.specs.declared.model.Functional.{Functional}
 use Rattle.psa_model.specs.declared.model.Model.{Model}
 use Rattle.psa_model.specs.declared.model.Sequence.{Sequence}
 use Rattle.psa_model.specs.declared.walks.Branch.{Branch}
-use Rattle.psa_model.specs.declared.walks.BranchEnd.{BranchEnd}
-use Rattle.psa_model.specs.declared.walks.BranchEnd.TheOpen.{BranchEnd-F}
 use Rattle.psa_model.specs.declared.walks.BranchEnd.TheViews.{out-BranchEnd}
 use Rattle.psa_model.specs.declared.walks.ForkPath.{ForkPath}
 use Rattle.psa_model.specs.declared.walks.Instruction.{Instruction}
 use Rattle.psa_walk.specs.declared.walk.Stop.{Stop}
 use Rattle.psa_walk.specs.declared.walk.Stop.TheVariants as stop
-use Rattle.psa_model.specs.Paths.{Travelled, Arrival, too_long, Carried, carried, after_instructions, Below, arrivals_from, with_fork, linked_arrivals, link_arrivals, sequence_arrivals, fork_arrivals, end_arrivals, arrivals, below}
+use Rattle.psa_model.specs.Paths.{Travelled, Arrival, too_long, carried, after_instructions, Below, arrivals_from, with_fork, linked_arrivals, link_arrivals, sequence_arrivals, fork_arrivals, end_arrivals, arrivals, below}
 use Rattle.psa_model.specs.Tests.{Fork}
 use Rattle.psa_walk.specs.Walks.{GatheredPaths, Carries, gather, Gathers}
 use Rattle.psa_walk.proofs.CarriedInstructionLemmas.{carried-extends, goes-back}
-use Rattle.psa_walk.proofs.GatheredPathLemmas.{gather-then, gathers-then, gathers-stop, after-carried, after-stopped, gathers-as, arrivals-none, arrivals-one}
+use Rattle.psa_walk.proofs.GatheredPathLemmas.{gather-then, gathers-stop, after-carried, after-stopped, gathers-as, arrivals-one}
 
 -- a branch: its instructions, and then its end
 module _ (levels : ℕ) (model : Model) (initiating left : ℕ) (branch : Branch) (along : Travelled) (slice : List Instruction) (same : slice ≡ branch.instructions) (some : 0 < levels) where

@@ -1,5 +1,5 @@
 -- Where the walk stops is the first fault of the paths; else all of them arrived.
-use Rattle.std.proofs.Common.{◌≡◌, ◌-◌, ◌==◌, ℕ, List, [], ◌∷◌, ◌++◌, Option, Some, None, Result, Ok, Err, map, refl, sym, ap, ◌∙◌, subst, inl, inr, append_assoc}
+use Rattle.std.proofs.Common.{◌≡◌, ◌-◌, ℕ, List, [], ◌∷◌, ◌++◌, Result, Ok, Err, refl, sym, ap, ◌∙◌, inl, inr, append_assoc}
 use Rattle.std.proofs.lemmas.Bool.Decides.{eqb_tells}
 use Rattle.psa_model.specs.declared.fault.FaultKind.TheVariants.{LongPath, TooManyPaths}
 use Rattle.psa_model.specs.declared.model.Initiating.{Initiating}
@@ -9,7 +9,7 @@ use Rattle.psa_model.specs.Paths.{Arrived, Arrival, too_long, arrives}
 use Rattle.psa_walk.specs.declared.walk.Stop.{Stop}
 use Rattle.psa_walk.specs.declared.walk.Stop.TheVariants as stop
 use Rattle.psa_walk.specs.Walks.{GatheredPaths, gather}
-use Rattle.psa_walk.specs.Answers.{with_event, GoesOn, Fails}
+use Rattle.psa_walk.specs.Answers.{GoesOn, Fails}
 
 same_findings : (f g : GatheredPaths) → ◌≡◌ {A = Result GatheredPaths Stop} (Ok f) (Ok g) → f ≡ g
 same_findings f g e = cc

@@ -1,10 +1,8 @@
 -- What the walk gathers from a list of paths, part by part.
 use Rattle.std.specs.Prelude.{⊤}
-use Rattle.std.proofs.Common.{◌≡◌, ◌<◌, ◌-◌, ◌==◌, ℕ, zero, suc, List, [], ◌∷◌, ◌++◌, Option, None, Some, Result, Ok, Err, drop, length, get_or, refl, sym, ap, ◌∙◌, subst, sub-one, inl, inr, arith}
+use Rattle.std.proofs.Common.{◌≡◌, ◌<◌, ◌-◌, ℕ, zero, suc, List, [], ◌∷◌, ◌++◌, Option, Result, Ok, Err, refl, sym, ap, ◌∙◌, subst, sub-one, inl, inr, arith}
 use Rattle.std.proofs.lemmas.Bool.Decides.{eqb_tells}
-use Rattle.std.specs.List.{flat_map}
 use Rattle.psa_model.specs.declared.model.Model.{Model}
-use Rattle.psa_model.specs.declared.model.Functional.{Functional}
 use Rattle.psa_model.specs.declared.walks.Branch.{Branch}
 use Rattle.psa_model.specs.declared.walks.BranchEnd.TheViews.{out-BranchEnd}
 use Rattle.psa_walk.specs.declared.walk.Stop.{Stop}

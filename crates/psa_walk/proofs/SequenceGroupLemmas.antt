@@ -1,5 +1,5 @@
 -- Paths that are put together one by one are the sequences in the order of their first path, each with its paths.
-use Rattle.std.proofs.Common.{◌≡◌, ◌<◌, suc, zero, length, get_or, set, arith, ◌==◌, ◌&&◌, ◌||◌, ℕ, Bool, true, false, List, [], ◌∷◌, ◌++◌, map, not, filter, if◌then◌else◌, nat_eq, refl, sym, ap, ap₂, ◌∙◌, subst, inl, inr, append_assoc}
+use Rattle.std.proofs.Common.{◌≡◌, ◌<◌, suc, zero, length, get_or, set, arith, ◌==◌, ◌&&◌, ◌||◌, ℕ, Bool, true, false, List, [], ◌∷◌, ◌++◌, map, not, filter, nat_eq, refl, sym, ap, ap₂, ◌∙◌, inl, inr, append_assoc}
 use Rattle.std.proofs.lemmas.Bool.{false≢true, and_parts, and_from, cases_Bool, eq-eqb, ne_eqb}
 use Rattle.std.proofs.lemmas.Bool.Decides.{eqb_tells}
 use Rattle.std.specs.List.{list_any, position_or_len}

@@ -1,6 +1,5 @@
 -- What a walk answers of faults.
-use Rattle.std.specs.Prelude.{◌≡◌, ◌++◌, ℕ, List, map, Option, Some}
-use Rattle.psa_model.specs.declared.fault.FaultKind.{FaultKind}
+use Rattle.std.specs.Prelude.{◌≡◌, ◌++◌, ℕ, List, map, Some}
 use Rattle.psa_model.specs.declared.fault.ModelFault.{ModelFault}
 use Rattle.psa_model.specs.declared.model.Initiating.{Initiating}
 use Rattle.psa_walk.specs.declared.listing.WalkError.{WalkError}

@@ -1,9 +1,7 @@
 -- Paths put together by their sequences.
-use Rattle.std.specs.Prelude.{◌≡◌, ◌==◌, ℕ, Bool, List, [], ◌∷◌, ◌++◌, map, not, filter, if◌then◌else◌}
+use Rattle.std.specs.Prelude.{◌==◌, ℕ, List, [], ◌∷◌, ◌++◌, map, if◌then◌else◌}
 use Rattle.psa_model.specs.declared.targets.Target.{Target}
 use Rattle.psa_model.specs.declared.targets.Target.TheVariants.{Sequence}
-use Rattle.psa_model.specs.Ranks.{firsts}
-use Rattle.psa_model.specs.PathTargets.{paths_to}
 use Rattle.psa_model.specs.Paths.{Arrived}
 use Rattle.psa_walk.specs.declared.groups.SequenceGroup.{SequenceGroup}
 

@@ -1,9 +1,9 @@
-use Rattle.std.proofs.Common.{◌≡◌, ◌<◌, ℕ, Ok, Err, take, sym, ap, ◌∙◌, arith}
+use Rattle.std.proofs.Common.{◌<◌, ℕ, Ok, Err, take, ap, ◌∙◌, arith}
 use Rattle.std.proofs.lemmas.Result.{err_from_is_err_and}
 use Rattle.psa_model.specs.Paths.{Travelled, below, with_fork}
 use Rattle.psa_walk.specs.Walks.{gather}
 use Rattle.psa_walk.proofs.GatheredPathLemmas.{arrivals-none}
-use Rattle.psa_walk.proofs.BranchStepLemmas.{branch-gathers, branch-stops, carried-back, sequence-gathers, sequence-stops, fork-more, fork-stops, fork-end, fork-left}
+use Rattle.psa_walk.proofs.BranchStepLemmas.{branch-gathers, branch-stops, carried-back, fork-more, fork-stops, fork-left}
 use Rattle.psa_walk.proofs.branches.+walking.Goals as goal
 
 pub walk_branch-returns-then-depth-eq0-clause-gathered : goal.walk_branch-returns-then-depth-eq0-clause-gathered

@@ -1,4 +1,4 @@
-use Rattle.std.proofs.Common.{◌≡◌, ◌-◌, [], sym, ap, ◌∙◌, refl, arith}
+use Rattle.std.proofs.Common.{◌-◌, [], sym, ap, ◌∙◌, refl, arith}
 use Rattle.std.specs.List.{slice_get}
 use Rattle.std.proofs.lemmas.Result.{err_from_is_err_and}
 use Rattle.psa_walk.proofs.CarriedInstructionLemmas.{carried-nil, carried-none, carried-collect, carried-set, carried-block, carried-rule, carried-if, carries-as, one-more, one-stops, all-carried}

@@ -1,4 +1,4 @@
-use Rattle.std.proofs.Common.{◌≡◌, ◌++◌, [], ℕ, List, Option, None, Some, Result, Ok, Err, refl, sym, ap, ap₂, ◌∙◌, subst}
+use Rattle.std.proofs.Common.{◌≡◌, ◌++◌, [], ℕ, List, Option, Some, sym, ap, ap₂, ◌∙◌, subst}
 use Rattle.std.specs.List.{slice_get}
 use Rattle.psa_model.specs.declared.fault.ModelFault.{ModelFault}
 use Rattle.psa_model.specs.declared.ids.TreeId.{TreeId}
@@ -6,10 +6,9 @@ use Rattle.psa_model.specs.declared.model.EventTree.{EventTree}
 use Rattle.psa_model.specs.declared.model.Initiating.{Initiating}
 use Rattle.psa_model.specs.declared.model.Model.{Model}
 use Rattle.psa_model.specs.declared.model.TheConstants.{MAX_DEPTH}
-use Rattle.psa_model.specs.declared.targets.Target.{Target}
 use Rattle.psa_walk.specs.declared.listing.WalkError.{WalkError}
 use Rattle.psa_walk.specs.declared.listing.WalkError.TheVariants.{Fault, Memory}
-use Rattle.psa_model.specs.PathTargets.{sequence_targets, arrived_in}
+use Rattle.psa_model.specs.PathTargets.{sequence_targets}
 use Rattle.psa_model.specs.Paths.{Arrived, Travelled, Arrival, arrivals, arrivals_from, tree_of, paths_of}
 use Rattle.psa_model.specs.declared.limits.TheConstants.{MAX_INSTRUCTIONS}
 use Rattle.psa_walk.specs.Walks.{GatheredPaths, gather}
