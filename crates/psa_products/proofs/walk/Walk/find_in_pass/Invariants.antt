@@ -1,0 +1,13 @@
+use Rattle.std.proofs.Common.{◌≡◌}
+use Rattle.psa_products.specs.Walks.{to_come, ways_left, passes_left, IsWalk}
+use Rattle.psa_products.proofs.walk.Walk.find_in_pass.Given as goal
+
+abbrev pub invariant-loop-self : goal.invariant-loop-self
+invariant-loop-self g l = record {
+  walk : IsWalk l.self;
+  same : to_come l.self ≡ to_come l.fn.self;
+  pass : passes_left l.self ≡ passes_left l.fn.self;
+}
+
+abbrev pub decreases-loop-self : goal.decreases-loop-self
+decreases-loop-self g l = ways_left l.self

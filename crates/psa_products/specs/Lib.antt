@@ -1,0 +1,5 @@
+pub mod Products
+pub mod Members
+pub mod Walks
+pub mod Rules
+pub mod Sums
