@@ -74,7 +74,7 @@ fn command<'a>(alloc: Global) -> Result<Command<'a>, AllocError>
 }
 
 /// What the parser finds in the words. `BadWords` where it refuses them.
-#[tactic(auto, using(crate::proofs::Scrams::simple_free, crate::proofs::Scrams::simple))]
+#[tactic(auto, using(crate::proofs::SimpleCommandLemmas::simple_free, crate::proofs::SimpleCommandLemmas::simple))]
 pub fn parse<'a>(alloc: Global, words: &'a [String]) -> Result<ArgMatches<'a>, WordsError>
     ensures matches { IfOk result (λ m.
         rows_of (found_of m) ≡ matches_of scram (map string_bytes words.entry.now)) }
