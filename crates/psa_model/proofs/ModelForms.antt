@@ -62,7 +62,7 @@ group-is-model = record {
   basics = All-from_recursion (λ (basic : BasicEvent). IfSome basic.expression (IsValue group_model)) group_model.basics (tt, (tt, (tt, tt)));
   groups = All-from_recursion (IsGroup group_model) group_model.groups (group-is-group, tt);
   apart = refl;
-  order = record { basics = refl; groups = refl; places = refl };
+  order = record { basics = refl; groups = refl };
   rules = All-nil _;
   event_trees = All-nil _;
   functionals = All-nil _;

@@ -77,7 +77,7 @@ link-more model below above more (Some tree) h = there-more _ _ (λ (t : EventTr
 end-more : (n : ℕ) (model : Model) (below above : Branch → Bool) → ((b : Branch) → below b ≡ true → above b ≡ true) → (end : BranchEnd-F BranchEnd Branch ForkPath) → end_layer n model below end ≡ true → end_layer (suc n) model above end ≡ true
 end-more n model below above more (BranchEnd-F.Fork functional paths) h =
     there-more _ _
-    (λ (f : Functional) k. let parts = and_parts (nat_le 1 (length paths)) _ k in and-both _ _ parts.0 (all-more _ _ (λ (path : ForkPath). more path.branch) paths parts.1))
+    (λ (f : Functional). all-more _ _ (λ (path : ForkPath). more path.branch) paths)
     (slice_get model.functionals functional.0) h
 end-more n model below above more (BranchEnd-F.Sequence id) h =
     there-more _ _
@@ -101,7 +101,7 @@ walk-more (suc n) model branch h =
 end-ways : (n : ℕ) (model : Model) (below above : Branch → Bool) → ((b : Branch) → below b ≡ true → above b ≡ true) → (end : BranchEnd-F BranchEnd Branch ForkPath) → end_layer n model below end ≡ true → end_within model above end ≡ true
 end-ways n model below above more (BranchEnd-F.Fork functional paths) h =
     there-more _ _
-    (λ (f : Functional) k. let parts = and_parts (nat_le 1 (length paths)) _ k in all-more _ _ (λ (path : ForkPath). more path.branch) paths parts.1)
+    (λ (f : Functional). all-more _ _ (λ (path : ForkPath). more path.branch) paths)
     (slice_get model.functionals functional.0) h
 end-ways n model below above more (BranchEnd-F.Sequence id) h =
     there-more _ _

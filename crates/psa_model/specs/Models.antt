@@ -4,7 +4,6 @@
 -- the order and the limits are this project's own.
 use Rattle.std.specs.Prelude.{◌≡◌, ◌==◌, ◌+◌, ◌-◌, ◌≤◌, ◌<◌, ℕ, zero, suc, Bool, true, false, List, [], ◌∷◌, ◌++◌, Option, None, Some, All, IfSome, is_none, length, map, max, sum, filter, flat_map, nat_le, nat_lt, ◌&&◌, ◌||◌, not}
 use Rattle.std.specs.List.{slice_get, list_all, list_any, filter_map, range_with_len}
-use Rattle.std.specs.Option.{option_map}
 use Rattle.psa_model.specs.declared.expression.Expression.{Expression}
 use Rattle.psa_model.specs.declared.expression.Expression.TheOpen.{Expression-F}
 use Rattle.psa_model.specs.declared.expression.Expression.TheFolds.{fold-Expression}
@@ -140,23 +139,10 @@ abbrev pub group_in : Valued → Option ℕ
 group_in (valued.Basic id) = None
 group_in (valued.Group id) = Some id.0
 
-abbrev pub place_in : Model → Valued → Option Place
-place_in model (valued.Basic id) = option_map (λ basic. basic.place) (slice_get model.basics id.0)
-place_in model (valued.Group id) = option_map (λ group. group.place) (slice_get model.groups id.0)
-
--- no place stands behind one that follows it
-abbrev pub is_behind : Place → Place → Bool
-is_behind one other = nat_lt other.file one.file || (one.file == other.file && nat_lt other.line one.line)
-
-abbrev pub are_in_order : List Place → Bool
-are_in_order [] = true
-are_in_order (one ∷ more) = not (list_any (is_behind one) more) && are_in_order more
-
--- The basic events that are no members, and the groups, each once, in document order.
+-- The basic events that are no members, and the groups, each once, ascending.
 pub record IsOrder (model : Model) : Type 0 where
   pub basics : filter_map basic_in model.order ≡ filter (λ id. not (list_any (λ m. m == id) (members_of model))) (range_with_len 0 (length model.basics))
   pub groups : filter_map group_in model.order ≡ range_with_len 0 (length model.groups)
-  pub places : are_in_order (filter_map (place_in model) model.order) ≡ true
 
 -- ---- size
 

@@ -47,8 +47,7 @@ instruction_within (suc levels) model one =
 
 abbrev pub end_layer : ℕ → Model → (Branch → Bool) → BranchEnd-F BranchEnd Branch ForkPath → Bool
 end_layer levels model below (BranchEnd-F.Fork functional paths) =
-    passes_there (slice_get model.functionals functional.0)
-    (λ f. nat_le 1 (length paths) && list_all (λ path. below path.branch) paths)
+    passes_there (slice_get model.functionals functional.0) (λ f. list_all (λ path. below path.branch) paths)
 end_layer levels model below (BranchEnd-F.Sequence id) =
     passes_there (slice_get model.sequences id.0)
     (λ sequence. list_all (instruction_within levels model) sequence.instructions && link_within model below sequence.link)
