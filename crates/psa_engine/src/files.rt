@@ -37,10 +37,13 @@ pub fn read_whole<F: Folder>(
 ) -> Result<Option<Vec<u8>>, ReadError>
     requires { IsTrue (F.allows files.old name.now) }
 
-    ensures whole { IfOk result (λ found. IfSome found (λ bytes. Tells (F.texts files.old) name.now (λ text. text ≡ bytes.items))) }
+    ensures whole { IfOk result (λ found. IfSome found
+        (λ bytes. Tells (F.texts files.old) name.now (λ text. text ≡ bytes.items))) }
     ensures fits { IfOk result (λ found. IfSome found (λ bytes. vec_len bytes ≤ MAX_BYTES)) }
-    ensures long { IfOk result (λ found. IfNone found (Tells (F.texts files.old) name.now (λ text. MAX_BYTES < length text))) }
-    ensures failed { IsErrOf result ReadError.Failed → Rose (F.faults files.old) (F.faults files.new) }
+    ensures long { IfOk result (λ found. IfNone found
+        (Tells (F.texts files.old) name.now (λ text. MAX_BYTES < length text))) }
+    ensures failed { IsErrOf result ReadError.Failed
+        → Rose (F.faults files.old) (F.faults files.new) }
 
     ensures later { F.faults files.old ≤ F.faults files.new }
     ensures reads { F.reads files.new ≤ F.reads files.old + 1048577 }
@@ -60,10 +63,13 @@ fn read_opened<F: Folder>(
 ) -> Result<Option<Vec<u8>>, ReadError>
     requires { Reads (F.texts files.old) name.now [] (F.rest files.old) }
 
-    ensures whole { IfOk result (λ found. IfSome found (λ bytes. Tells (F.texts files.old) name.now (λ text. text ≡ bytes.items))) }
+    ensures whole { IfOk result (λ found. IfSome found
+        (λ bytes. Tells (F.texts files.old) name.now (λ text. text ≡ bytes.items))) }
     ensures fits { IfOk result (λ found. IfSome found (λ bytes. vec_len bytes ≤ MAX_BYTES)) }
-    ensures long { IfOk result (λ found. IfNone found (Tells (F.texts files.old) name.now (λ text. MAX_BYTES < length text))) }
-    ensures failed { IsErrOf result ReadError.Failed → Rose (F.faults files.old) (F.faults files.new) }
+    ensures long { IfOk result (λ found. IfNone found
+        (Tells (F.texts files.old) name.now (λ text. MAX_BYTES < length text))) }
+    ensures failed { IsErrOf result ReadError.Failed
+        → Rose (F.faults files.old) (F.faults files.new) }
 
     ensures later { F.faults files.old ≤ F.faults files.new }
     ensures reads { F.reads files.new ≤ F.reads files.old + 1048577 }

@@ -24,7 +24,8 @@ pub fn push_ranked(
     ranks: &[EventNumber],
     rank: u32,
 ) -> Result<(), OutOfMemory>
-    ensures { OnOk result (text.new.items ≡ text.old.items ++ ranked_text expanded.now ranks.now rank) }
+    ensures { OnOk result (text.new.items
+        ≡ text.old.items ++ ranked_text expanded.now ranks.now rank) }
 {
     match ranks.get(rank as usize) {
         Some(number) => push_numbered(text, expanded, *number),
@@ -38,7 +39,8 @@ fn push_numbered(
     expanded: &Expanded,
     number: EventNumber,
 ) -> Result<(), OutOfMemory>
-    ensures { OnOk result (text.new.items ≡ text.old.items ++ name_in (event_text expanded.now.model) expanded.now.events number.0) }
+    ensures { OnOk result (text.new.items
+        ≡ text.old.items ++ name_in (event_text expanded.now.model) expanded.now.events number.0) }
 {
     match expanded.events.get(number.0 as usize) {
         Some(event) => push_event(text, &expanded.model, *event),
@@ -75,7 +77,9 @@ fn push_member(
     group: GroupId,
     place: u8,
 ) -> Result<(), OutOfMemory>
-    ensures { OnOk result (text.new.items ≡ text.old.items ++ member_name model.now (slice_get (members_at model.now group.0) place)) }
+    ensures { OnOk result (text.new.items
+        ≡ text.old.items
+        ++ member_name model.now (slice_get (members_at model.now group.0) place)) }
 {
     match members(model, group).get(place as usize) {
         Some(id) => push_basic(text, model, *id),
@@ -90,7 +94,8 @@ fn push_subset(
     group: GroupId,
     subset: u8,
 ) -> Result<(), OutOfMemory>
-    ensures { OnOk result (text.new.items ≡ text.old.items ++ event_text model.now (ExpandedEvent.Shared group subset)) }
+    ensures { OnOk result (text.new.items
+        ≡ text.old.items ++ event_text model.now (ExpandedEvent.Shared group subset)) }
 {
     text.push(b'[')?;
     push_held(text, model, members(model, group), subset)?;
@@ -105,7 +110,10 @@ fn push_held(
     members: &[EventId],
     subset: u8,
 ) -> Result<(), OutOfMemory>
-    ensures { OnOk result (text.new.items ≡ text.old.items ++ join_by (λ id. basic_name model.now id.0) (codes " ") (held_members subset members.now)) }
+    ensures { OnOk result (text.new.items
+        ≡ text.old.items
+        ++ join_by (λ id. basic_name model.now id.0) (codes " ")
+        (held_members subset members.now)) }
 {
     let mut is_first = true;
     let mut left = subset;
@@ -125,7 +133,10 @@ fn push_if(
     is_held: bool,
     is_first: bool,
 ) -> Result<bool, OutOfMemory>
-    ensures { IfOk result (λ still_first. (rest : List EventId) → text.new.items ++ names_left model.now still_first rest ≡ text.old.items ++ names_left model.now is_first (if is_held then member ∷ rest else rest)) }
+    ensures { IfOk result (λ still_first. (rest : List EventId)
+        → text.new.items ++ names_left model.now still_first rest
+        ≡ text.old.items
+        ++ names_left model.now is_first (if is_held then member ∷ rest else rest)) }
 {
     if !is_held {
         return Ok(is_first);

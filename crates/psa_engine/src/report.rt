@@ -39,8 +39,10 @@ pub fn write_report<O: Sink>(
     requires settings { AreFirst settings.now }
     requires first { IsFirst expanded.now }
 
-    ensures all { OnOk result (WritesAll (plain_analysis settings.now expanded.now) (top_targets expanded.now.model) (O.written out.old) (O.written out.new)) }
-    ensures part { OnErr result (WritesPart (plain_analysis settings.now expanded.now) (top_targets expanded.now.model) (O.written out.old) (O.written out.new)) }
+    ensures all { OnOk result (WritesAll (plain_analysis settings.now expanded.now)
+        (top_targets expanded.now.model) (O.written out.old) (O.written out.new)) }
+    ensures part { OnErr result (WritesPart (plain_analysis settings.now expanded.now)
+        (top_targets expanded.now.model) (O.written out.old) (O.written out.new)) }
     ensures cause { result ≡ Err ReportError.Write → Rose (O.faults out.old) (O.faults out.new) }
 {
     let Ok(targets) = top_events(alloc, &expanded.model) else {
@@ -64,8 +66,10 @@ fn write_sections<O: Sink>(
     requires first { IsFirst expanded.now }
     requires tops { All (IsTop expanded.now) targets.now }
 
-    ensures all { OnOk result (WritesSections (plain_analysis settings.now expanded.now) targets.now (O.written out.old) (O.written out.new)) }
-    ensures part { OnErr result (WritesSectionsPart (plain_analysis settings.now expanded.now) targets.now (O.written out.old) (O.written out.new)) }
+    ensures all { OnOk result (WritesSections (plain_analysis settings.now expanded.now)
+        targets.now (O.written out.old) (O.written out.new)) }
+    ensures part { OnErr result (WritesSectionsPart (plain_analysis settings.now expanded.now)
+        targets.now (O.written out.old) (O.written out.new)) }
     ensures cause { result ≡ Err ReportError.Write → Rose (O.faults out.old) (O.faults out.new) }
     ensures later { O.faults out.old ≤ O.faults out.new }
 {
@@ -90,7 +94,8 @@ fn section_of(
     requires settings { AreFirst settings.now }
     requires first { IsFirst expanded.now }
     requires top { IsTop expanded.now target.now }
-    ensures { IfOk result (λ text. IsSection (plain_analysis settings.now expanded.now) target.now text.items) }
+    ensures { IfOk result
+        (λ text. IsSection (plain_analysis settings.now expanded.now) target.now text.items) }
 {
     let index = EventIndex::of_plain(alloc, expanded)?;
     let ranks = rank(alloc, expanded, &index, target)?;

@@ -40,16 +40,27 @@ pub fn analyse_words<F: Folder, O: Sink, E: Sink>(
     requires { IfSome (file_of words.now.items) (λ name. IsTrue (F.allows files.old name)) }
 
     // When each status comes, and what it leaves on `out`.
-    ensures outcome { Outcome (F.texts files.old) (file_of words.now.items) (Rose (F.faults files.old) (F.faults files.new)) (Rose (O.faults out.old) (O.faults out.new)) (O.written out.old) (O.written out.new) result }
+    ensures outcome { Outcome (F.texts files.old) (file_of words.now.items)
+        (Rose (F.faults files.old) (F.faults files.new))
+        (Rose (O.faults out.old) (O.faults out.new))
+        (O.written out.old) (O.written out.new) result }
 
     // Without faults a first text gives its report, and no other text does.
-    ensures complete { (Rose (F.faults files.old) (F.faults files.new) → ⊥) → (Rose (O.faults out.old) (O.faults out.new) → ⊥) → FileHas (F.texts files.old) (file_of words.now.items) (λ bytes. IsSome (model_of bytes)) → (result ≡ Status.Done) ⊎ (result ≡ Status.OutOfMemory) }
+    ensures complete { (Rose (F.faults files.old) (F.faults files.new) → ⊥)
+        → (Rose (O.faults out.old) (O.faults out.new) → ⊥)
+        → FileHas (F.texts files.old) (file_of words.now.items) (λ bytes. IsSome (model_of bytes))
+        → (result ≡ Status.Done) ⊎ (result ≡ Status.OutOfMemory) }
     ensures other_words { file_of words.now.items ≡ None → result ≡ Status.Unbuilt }
-    ensures other_texts { (Rose (F.faults files.old) (F.faults files.new) → ⊥) → FileHas (F.texts files.old) (file_of words.now.items) (λ bytes. model_of bytes ≡ None) → (result ≡ Status.Unbuilt) ⊎ (result ≡ Status.OutOfMemory) }
+    ensures other_texts { (Rose (F.faults files.old) (F.faults files.new) → ⊥)
+        → FileHas (F.texts files.old) (file_of words.now.items) (λ bytes. model_of bytes ≡ None)
+        → (result ≡ Status.Unbuilt) ⊎ (result ≡ Status.OutOfMemory) }
 
     // The line of the status on `err`, whole where `err` did not fail.
-    ensures line { (Rose (E.faults err.old) (E.faults err.new) → ⊥) → Appends (E.written err.old) (E.written err.new) (status_line result (unwrap_or (file_of words.now.items) [])) }
-    ensures line_part { AppendsPrefix (E.written err.old) (E.written err.new) (status_line result (unwrap_or (file_of words.now.items) [])) }
+    ensures line { (Rose (E.faults err.old) (E.faults err.new) → ⊥)
+        → Appends (E.written err.old) (E.written err.new)
+        (status_line result (unwrap_or (file_of words.now.items) [])) }
+    ensures line_part { AppendsPrefix (E.written err.old) (E.written err.new)
+        (status_line result (unwrap_or (file_of words.now.items) [])) }
 
     // At most one file is opened, none where the words name none, and it is read a bounded number of times.
     ensures opens { F.opens files.new ≤ F.opens files.old + 1 }
@@ -69,7 +80,10 @@ pub fn analyse_words<F: Folder, O: Sink, E: Sink>(
 fn run_file<F: Folder, O: Sink>(alloc: Global, name: &str, files: &mut F, out: &mut O) -> Status
     requires { IsTrue (F.allows files.old name.now) }
 
-    ensures outcome { Outcome (F.texts files.old) (Some name.now) (Rose (F.faults files.old) (F.faults files.new)) (Rose (O.faults out.old) (O.faults out.new)) (O.written out.old) (O.written out.new) result }
+    ensures outcome { Outcome (F.texts files.old) (Some name.now)
+        (Rose (F.faults files.old) (F.faults files.new))
+        (Rose (O.faults out.old) (O.faults out.new))
+        (O.written out.old) (O.written out.new) result }
     ensures opens { F.opens files.new ≤ F.opens files.old + 1 }
     ensures reads { F.reads files.new ≤ F.reads files.old + 1048577 }
 {
@@ -87,7 +101,8 @@ fn run_file<F: Folder, O: Sink>(alloc: Global, name: &str, files: &mut F, out: &
 /// The run over the bytes of a file.
 fn run_bytes<O: Sink>(alloc: Global, settings: &Settings, bytes: &[u8], out: &mut O) -> Status
     requires { AreFirst settings.now }
-    ensures { BytesOutcome settings.now bytes.now (Rose (O.faults out.old) (O.faults out.new)) (O.written out.old) (O.written out.new) result }
+    ensures { BytesOutcome settings.now bytes.now (Rose (O.faults out.old) (O.faults out.new))
+        (O.written out.old) (O.written out.new) result }
 {
     match first_expanded(alloc, bytes) {
         Ok(Some(expanded)) => match write_report(alloc, settings, &expanded, out) {

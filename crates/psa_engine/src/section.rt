@@ -23,7 +23,9 @@ pub fn section_bytes(
     ranks: &[EventNumber],
     sets: &[Items<u32>],
 ) -> Result<Vec<u8>, OutOfMemory>
-    ensures { IfOk result (λ text. text.items ≡ section_without_quantities expanded.now target.now ranks.now (map positive_product sets.now)) }
+    ensures { IfOk result (λ text. text.items
+        ≡ section_without_quantities expanded.now target.now ranks.now
+        (map positive_product sets.now)) }
 {
     let mut text = Vec::new(alloc);
     push_target(&mut text, &expanded.model, target)?;
@@ -47,7 +49,9 @@ fn push_target(text: &mut Vec<u8>, model: &Model, target: &Target) -> Result<(),
 }
 
 fn push_top_event(text: &mut Vec<u8>, model: &Model, gate: GateId) -> Result<(), OutOfMemory>
-    ensures { OnOk result (text.new.items ≡ text.old.items ++ (codes "top-event " ++ gate_tree_name model.now gate.0 ++ codes " " ++ name_in (λ g. g.name) model.now.gates gate.0 ++ codes "\n")) }
+    ensures { OnOk result (text.new.items ≡ text.old.items
+        ++ (codes "top-event " ++ gate_tree_name model.now gate.0 ++ codes " "
+        ++ name_in (λ g. g.name) model.now.gates gate.0 ++ codes "\n")) }
 {
     text.extend_from_slice(b"top-event ")?;
     text.extend_from_slice(gate_tree(model, gate))?;
@@ -63,7 +67,10 @@ fn push_sequence(
     initiating: InitiatingId,
     sequence: SequenceId,
 ) -> Result<(), OutOfMemory>
-    ensures { OnOk result (text.new.items ≡ text.old.items ++ (codes "sequence " ++ name_in (λ i. i.name) model.now.initiatings initiating.0 ++ codes " " ++ sequence_tree_name model.now sequence.0 ++ codes " " ++ name_in (λ s. s.name) model.now.sequences sequence.0 ++ codes "\n")) }
+    ensures { OnOk result (text.new.items ≡ text.old.items
+        ++ (codes "sequence " ++ name_in (λ i. i.name) model.now.initiatings initiating.0
+        ++ codes " " ++ sequence_tree_name model.now sequence.0
+        ++ codes " " ++ name_in (λ s. s.name) model.now.sequences sequence.0 ++ codes "\n")) }
 {
     text.extend_from_slice(b"sequence ")?;
     text.extend_from_slice(initiating_name(model, initiating))?;
@@ -147,7 +154,8 @@ fn push_products(
     ranks: &[EventNumber],
     sets: &[Items<u32>],
 ) -> Result<(), OutOfMemory>
-    ensures { OnOk result (text.new.items ≡ text.old.items ++ flat_map (λ set. line_without_bound expanded.now ranks.now (positive_product set)) sets.now) }
+    ensures { OnOk result (text.new.items ≡ text.old.items ++ flat_map
+        (λ set. line_without_bound expanded.now ranks.now (positive_product set)) sets.now) }
 {
     for set in sets {
         push_product(text, expanded, ranks, set.as_slice())?;
@@ -162,7 +170,8 @@ fn push_product(
     ranks: &[EventNumber],
     set: &[u32],
 ) -> Result<(), OutOfMemory>
-    ensures { OnOk result (text.new.items ≡ text.old.items ++ line_without_bound expanded.now ranks.now (positive_product set.now)) }
+    ensures { OnOk result (text.new.items
+        ≡ text.old.items ++ line_without_bound expanded.now ranks.now (positive_product set.now)) }
 {
     let mut digits = Buffer::new();
     text.extend_from_slice(b"- ")?;
@@ -180,7 +189,8 @@ fn push_events(
     ranks: &[EventNumber],
     set: &[u32],
 ) -> Result<(), OutOfMemory>
-    ensures { OnOk result (text.new.items ≡ text.old.items ++ literals_text expanded.now ranks.now (positive_product set.now)) }
+    ensures { OnOk result (text.new.items
+        ≡ text.old.items ++ literals_text expanded.now ranks.now (positive_product set.now)) }
 {
     let Some((first, more)) = set.split_first() else {
         text.extend_from_slice(b"unity")?;
@@ -197,7 +207,8 @@ fn push_more_events(
     ranks: &[EventNumber],
     set: &[u32],
 ) -> Result<(), OutOfMemory>
-    ensures { OnOk result (text.new.items ≡ text.old.items ++ events_after expanded.now ranks.now set.now) }
+    ensures { OnOk result (text.new.items
+        ≡ text.old.items ++ events_after expanded.now ranks.now set.now) }
 {
     for rank in set {
         text.push(b' ')?;

@@ -9,15 +9,19 @@ use psa_ports::{Failed, Sink, put};
 
 /// Tells how a run ended, in the line of its status. That the line could not be written changes nothing.
 pub fn tell<E: Sink>(err: &mut E, status: Status, name: &str)
-    ensures line { (Rose (E.faults err.old) (E.faults err.new) → ⊥) → Appends (E.written err.old) (E.written err.new) (status_line status name.now) }
-    ensures part { AppendsPrefix (E.written err.old) (E.written err.new) (status_line status name.now) }
+    ensures line { (Rose (E.faults err.old) (E.faults err.new) → ⊥)
+        → Appends (E.written err.old) (E.written err.new) (status_line status name.now) }
+    ensures part { AppendsPrefix (E.written err.old) (E.written err.new)
+        (status_line status name.now) }
 {
     let _ = put_line(err, status, name);
 }
 
 fn put_line<E: Sink>(err: &mut E, status: Status, name: &str) -> Result<(), Failed>
-    ensures whole { OnOk result (Appends (E.written err.old) (E.written err.new) (status_line status name.now)) }
-    ensures part { AppendsPrefix (E.written err.old) (E.written err.new) (status_line status name.now) }
+    ensures whole { OnOk result (Appends (E.written err.old) (E.written err.new)
+        (status_line status name.now)) }
+    ensures part { AppendsPrefix (E.written err.old) (E.written err.new)
+        (status_line status name.now) }
     ensures cause { HasCause (E.faults err.old) (E.faults err.new) result }
 {
     match status {
@@ -30,8 +34,10 @@ fn put_line<E: Sink>(err: &mut E, status: Status, name: &str) -> Result<(), Fail
 }
 
 fn put_unread<E: Sink>(err: &mut E, name: &str) -> Result<(), Failed>
-    ensures whole { OnOk result (Appends (E.written err.old) (E.written err.new) (codes "scram: cannot read " ++ name.now ++ codes "\n")) }
-    ensures part { AppendsPrefix (E.written err.old) (E.written err.new) (codes "scram: cannot read " ++ name.now ++ codes "\n") }
+    ensures whole { OnOk result (Appends (E.written err.old) (E.written err.new)
+        (codes "scram: cannot read " ++ name.now ++ codes "\n")) }
+    ensures part { AppendsPrefix (E.written err.old) (E.written err.new)
+        (codes "scram: cannot read " ++ name.now ++ codes "\n") }
     ensures cause { HasCause (E.faults err.old) (E.faults err.new) result }
 {
     put(err, b"scram: cannot read ")?;

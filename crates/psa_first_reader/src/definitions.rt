@@ -40,7 +40,8 @@ fn count_of(elements: &[Element], tag: &str) -> usize
 
 /// Whether each is a definition of a gate or a basic event.
 fn are_known(elements: &[Element]) -> bool
-    ensures { result ≡ list_all (λ e. definitions.is_gate e || definitions.is_basic e) elements.now }
+    ensures { result ≡ list_all
+        (λ e. definitions.is_gate e || definitions.is_basic e) elements.now }
 {
     elements
         .iter()
@@ -81,7 +82,8 @@ pub fn place_at(element: &Element) -> Place
 /// The names of the gates among the elements.
 pub fn gate_names(alloc: Global, elements: &[Element]) -> Result<Items<Text>, ReadError>
     ensures { Gives (λ names. names) result
-        (definitions.all_some (map definitions.element_name (filter definitions.is_gate elements.now))) }
+        (definitions.all_some (map definitions.element_name
+        (filter definitions.is_gate elements.now))) }
 {
     let mut names = Items::new(alloc);
     for element in elements {

@@ -20,7 +20,8 @@ pub fn formula_of(
 ) -> Result<Formula, ReadError>
     requires gates { length names.now.gates < 2 ^ 32 }
     requires basics { length names.now.basics < 2 ^ 32 }
-    ensures { Gives (λ formula. formula) result (reading.formula_of (names_of names.now) from element.now) }
+    ensures { Gives (λ formula. formula) result
+        (reading.formula_of (names_of names.now) from element.now) }
 {
     match element.tag.as_str() {
         "gate" => gate_named(names, from, childless_name(element)?),
@@ -75,7 +76,8 @@ fn childless_name(element: &Element) -> Result<&str, ReadError>
 /// The gate of a name, which is defined behind the gate at place `from`.
 fn gate_named(names: &Names, from: u32, name: &str) -> Result<Formula, ReadError>
     requires { length names.now.gates < 2 ^ 32 }
-    ensures { Gives (λ formula. formula) result (reading.gate_named (names_of names.now) from name.now) }
+    ensures { Gives (λ formula. formula) result
+        (reading.gate_named (names_of names.now) from name.now) }
 {
     match place_of(names.gates.as_slice(), name) {
         Some(place) if from < place => Ok(Formula::Gate(GateId(place))),
@@ -86,7 +88,8 @@ fn gate_named(names: &Names, from: u32, name: &str) -> Result<Formula, ReadError
 /// The basic event of a name.
 fn basic_named(names: &Names, name: &str) -> Result<Formula, ReadError>
     requires { length names.now.basics < 2 ^ 32 }
-    ensures { Gives (λ formula. formula) result (reading.basic_named (names_of names.now) name.now) }
+    ensures { Gives (λ formula. formula) result
+        (reading.basic_named (names_of names.now) name.now) }
 {
     match place_of(names.basics.as_slice(), name) {
         Some(place) => Ok(Formula::Basic(EventId(place))),

@@ -24,7 +24,8 @@ pub fn bounds_hold_exact_values()
         → values_of mission expanded ≡ Ok values
         → (ranks : List EventNumber) (products : List (List ℕ))
         → Holds (rare_event_of (map (bound_of values ranks) products))
-        (exact_rare_event (map (exact_bound (quantities_of terms mission expanded) ranks) products)) }
+        (exact_rare_event
+        (map (exact_bound (quantities_of terms mission expanded) ranks) products)) }
     ensures min_cut { (terms : ℕ) → last_term ≤ terms
         → (mission : Scaled) (expanded : Expanded) (values : List Ends)
         → values_of mission expanded ≡ Ok values

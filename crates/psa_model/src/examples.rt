@@ -23,7 +23,8 @@ ghost use Rattle.psa_model.specs.Values.{exact_value, interval_value, values_of}
 /// and 0.5: its subsets in order, as numbers with bit i for the member at place i; and the quantities
 /// of its events, in units of 10^-12: 0.08 for each member alone, 0.005 for two, 0.01 for all three.
 pub fn group_of_three_members()
-    ensures events { (expanded_of true group_model).events ≡ map shared (1 ∷ 2 ∷ 4 ∷ 3 ∷ 5 ∷ 6 ∷ 7 ∷ []) }
+    ensures events { (expanded_of true group_model).events
+        ≡ map shared (1 ∷ 2 ∷ 4 ∷ 3 ∷ 5 ∷ 6 ∷ 7 ∷ []) }
     ensures values { (mission : Scaled) → values_of mission (expanded_of true group_model)
         ≡ Ok (map exactly (80_000_000_000 ∷ 80_000_000_000 ∷ 80_000_000_000
         ∷ 5_000_000_000 ∷ 5_000_000_000 ∷ 5_000_000_000 ∷ 10_000_000_000 ∷ [])) }
@@ -52,7 +53,8 @@ pub fn event_tree_with_a_link()
 
 /// The lines of a fault of the text, of the shape and of a value.
 pub fn lines_of_faults()
-    ensures text { fault_line (codes "a.xml") (record { kind = fault.BadNesting; file = 0; line = 1; name = [] })
+    ensures text { fault_line (codes "a.xml")
+        (record { kind = fault.BadNesting; file = 0; line = 1; name = [] })
         ≡ codes "scram: a.xml:1: bad nesting\n" }
     ensures shape { fault_line (codes "b.xml")
         (record { kind = fault.UnknownElement; file = 1; line = 12; name = codes "if" })
@@ -68,7 +70,8 @@ pub fn third_times_three()
         → interval_value MAX_VALUE_LEVELS mission model thrice_a_third
         ≡ Ok (record { lo = pos 999_999_999_999; hi = pos 1_000_000_000_002 }) }
     ensures exact { (terms : ℕ) (mission : Scaled) (model : Model)
-        → exact_value MAX_VALUE_LEVELS terms mission model thrice_a_third ≡ record { num = pos 3; den = 3 } }
+        → exact_value MAX_VALUE_LEVELS terms mission model thrice_a_third
+        ≡ record { num = pos 3; den = 3 } }
     ensures value { (mission : Scaled) → value_at mission (Some thrice_a_third)
         ≡ Ok (record { lo = pos 999_999_999_999; hi = pos 1_000_000_000_000 } ∷ []) }
 {}
@@ -77,7 +80,8 @@ pub fn third_times_three()
 /// probability of 0.00872174299.
 pub fn small_values()
     ensures number { (mission : Scaled)
-        → value_at mission (Some (expression.Number (scaled 1 (negsuc 19)))) ≡ Ok (record { lo = pos 0; hi = pos 1 } ∷ []) }
+        → value_at mission (Some (expression.Number (scaled 1 (negsuc 19))))
+        ≡ Ok (record { lo = pos 0; hi = pos 1 } ∷ []) }
     ensures exponential { value_at (scaled 8760 (pos 0)) (Some (failing_at (scaled 1 (negsuc 5))))
         ≡ Ok (record { lo = pos 8_721_742_990; hi = pos 8_721_742_995 } ∷ []) }
 {}
@@ -85,8 +89,10 @@ pub fn small_values()
 /// The fault of an event without an expression, of a division by 0, and of a value above 1.
 pub fn faults_of_values()
     ensures missing { (mission : Scaled) → value_at mission None ≡ Err (fault_of_a fault.NoValue) }
-    ensures divisor { (mission : Scaled) → value_at mission (Some one_by_zero) ≡ Err (fault_of_a fault.ZeroDivisor) }
-    ensures above { (mission : Scaled) → value_at mission (Some (whole_number 2)) ≡ Err (fault_of_a fault.NotProbability) }
+    ensures divisor { (mission : Scaled)
+        → value_at mission (Some one_by_zero) ≡ Err (fault_of_a fault.ZeroDivisor) }
+    ensures above { (mission : Scaled)
+        → value_at mission (Some (whole_number 2)) ≡ Err (fault_of_a fault.NotProbability) }
 {}
 
 /// A fault tree with a gate over two events is a draft; a gate without its fault tree is none.

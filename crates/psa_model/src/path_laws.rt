@@ -13,15 +13,18 @@ ghost use Rattle.psa_model.specs.Targets.{top_targets};
 
 /// More levels than there are branches on a way change no path.
 pub fn more_levels_change_no_path()
-    ensures { (levels : ℕ) (model : Model) (initiating left : ℕ) (branch : Branch) (along : Travelled)
+    ensures { (levels : ℕ) (model : Model) (initiating left : ℕ) (branch : Branch)
+        (along : Travelled)
         → branch_within levels model branch ≡ true
-        → arrivals (suc levels) model initiating left branch along ≡ arrivals levels model initiating left branch along }
+        → arrivals (suc levels) model initiating left branch along
+        ≡ arrivals levels model initiating left branch along }
 {}
 
 /// A path that arrives has at most as many steps as instructions may be carried out.
 pub fn paths_are_short()
     ensures { (model : Model) (place : ℕ) (initiating : Initiating)
-        → All (λ a. length a.path ≤ MAX_INSTRUCTIONS) (arrived_in (paths_of model place initiating)) }
+        → All (λ a. length a.path ≤ MAX_INSTRUCTIONS)
+        (arrived_in (paths_of model place initiating)) }
 {}
 
 /// Where the walks have no fault, each path arrived, and there are not too many.
@@ -34,6 +37,7 @@ pub fn walks_without_a_fault_end()
 
 /// A model without initiating events has its top events as targets, and no fault of walks.
 pub fn top_events_alone()
-    ensures targets { (model : Model) → model.initiatings ≡ [] → targets_of model ≡ top_targets model }
+    ensures targets { (model : Model) → model.initiatings ≡ []
+        → targets_of model ≡ top_targets model }
     ensures fault { (model : Model) → model.initiatings ≡ [] → walk_fault model ≡ None }
 {}

@@ -29,7 +29,8 @@ pub fn an_event_without_value_is_a_fault_of_quantities()
           expanded = expanded_of settings.ccf no_value_model;
           values = None;
         }) }
-    ensures line { fault_line (codes "m.xml") no_value_fault ≡ codes "scram: m.xml:1: no value a\n" }
+    ensures line { fault_line (codes "m.xml") no_value_fault
+        ≡ codes "scram: m.xml:1: no value a\n" }
 {}
 
 /// The text of the sample of two trains.

@@ -42,10 +42,12 @@ pub fn inputs_have_one_report()
 /// Where its files are told, a run whose model has a fault tells one line and is never done, as far as
 /// a text comes to no two things.
 pub fn fault_lines_are_determined()
-    ensures line { ReadsOnce → (settings : Settings) (run : Run) (files : Told) (line other : List ℕ)
+    ensures line { ReadsOnce
+        → (settings : Settings) (run : Run) (files : Told) (line other : List ℕ)
         → run.told ≡ Some files → BadModelRow settings run line → BadModelRow settings run other
         → line ≡ other }
-    ensures apart { ReadsOnce → (settings : Settings) (run : Run) (files : Told) (line other : List ℕ)
+    ensures apart { ReadsOnce
+        → (settings : Settings) (run : Run) (files : Told) (line other : List ℕ)
         → run.told ≡ Some files → DoneRow settings run line → BadModelRow settings run other → ⊥ }
 {}
 

@@ -12,7 +12,9 @@ pub fn is_satisfied(
     count: usize,
 ) -> bool
     requires { operator ≢ Connective.Imply }
-    ensures { (values : List Bool) → length values ≡ arguments → count_true values ≡ count → has_arity operator min max arguments ≡ true → result ≡ truth_of_connective operator min max values }
+    ensures { (values : List Bool) → length values ≡ arguments → count_true values ≡ count
+        → has_arity operator min max arguments ≡ true
+        → result ≡ truth_of_connective operator min max values }
 {
     match operator {
         Connective::And => count == arguments,

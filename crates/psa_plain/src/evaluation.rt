@@ -30,7 +30,8 @@ pub fn formula_truth(question: &Question, memo: &mut Memo, formula: &Formula, de
     requires within { within depth question.now.expanded.now.model formula.now ≡ true }
     requires index { IsIndex question.now.expanded.now question.now.index.now }
     requires right { AllRight question.now memo.old }
-    ensures { Answered question.now (is_enough question.now formula.now) (truth_at question.now formula.now) memo.new result }
+    ensures { Answered question.now (is_enough question.now formula.now)
+        (truth_at question.now formula.now) memo.new result }
 {
     match formula {
         Formula::Gate(id) => gate_truth(question, memo, *id, depth),
@@ -55,7 +56,8 @@ pub fn gate_truth(question: &Question, memo: &mut Memo, id: GateId, depth: u32) 
     requires within { within depth question.now.expanded.now.model (variant.Gate id) ≡ true }
     requires index { IsIndex question.now.expanded.now question.now.index.now }
     requires right { AllRight question.now memo.old }
-    ensures { Answered question.now (is_enough question.now (variant.Gate id)) (truth_at question.now (variant.Gate id)) memo.new result }
+    ensures { Answered question.now (is_enough question.now (variant.Gate id))
+        (truth_at question.now (variant.Gate id)) memo.new result }
 {
     if let Some(value) = memo.get(id.0) {
         return value;
@@ -85,7 +87,10 @@ fn connective_truth(
     requires within { list_all (λ g. is_enough question.now g depth) arguments.now ≡ true }
     requires index { IsIndex question.now.expanded.now question.now.index.now }
     requires right { AllRight question.now memo.old }
-    ensures { Answered question.now (λ n. list_all (λ g. is_enough question.now g n) arguments.now) (λ n. truth_of_connective operator min max (map (λ g. truth_at question.now g n) arguments.now)) memo.new result }
+    ensures { Answered question.now
+        (λ n. list_all (λ g. is_enough question.now g n) arguments.now)
+        (λ n. truth_of_connective operator min max
+        (map (λ g. truth_at question.now g n) arguments.now)) memo.new result }
 {
     match operator {
         Connective::Imply => implication_truth(question, memo, arguments, depth),
@@ -107,7 +112,10 @@ fn implication_truth(
     requires within { list_all (λ g. is_enough question.now g depth) arguments.now ≡ true }
     requires index { IsIndex question.now.expanded.now question.now.index.now }
     requires right { AllRight question.now memo.old }
-    ensures { Answered question.now (λ n. list_all (λ g. is_enough question.now g n) arguments.now) (λ n. truth_of_connective Connective.Imply 0 0 (map (λ g. truth_at question.now g n) arguments.now)) memo.new result }
+    ensures { Answered question.now
+        (λ n. list_all (λ g. is_enough question.now g n) arguments.now)
+        (λ n. truth_of_connective Connective.Imply 0 0
+        (map (λ g. truth_at question.now g n) arguments.now)) memo.new result }
 {
     match arguments {
         [premise, conclusion] => {
@@ -125,7 +133,9 @@ fn true_count(question: &Question, memo: &mut Memo, arguments: &[Formula], depth
     requires within { list_all (λ g. is_enough question.now g depth) arguments.now ≡ true }
     requires index { IsIndex question.now.expanded.now question.now.index.now }
     requires right { AllRight question.now memo.old }
-    ensures { Answered question.now (λ n. list_all (λ g. is_enough question.now g n) arguments.now) (λ n. count_true (map (λ g. truth_at question.now g n) arguments.now)) memo.new result }
+    ensures { Answered question.now
+        (λ n. list_all (λ g. is_enough question.now g n) arguments.now)
+        (λ n. count_true (map (λ g. truth_at question.now g n) arguments.now)) memo.new result }
 {
     let mut count = 0;
     for argument in arguments {

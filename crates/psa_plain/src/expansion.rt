@@ -8,7 +8,8 @@ use std::alloc::Global;
 /// The events of a model without groups: one for each basic event, with the same number.
 pub fn expand_plain(alloc: Global, model: Model) -> Result<Expanded, OutOfMemory>
     requires { length model.basics ≤ 2 ^ 32 }
-    ensures { IfOk result (λ expanded. (expanded.model ≡ model) × (expanded.events ≡ plain_events model.basics)) }
+    ensures { IfOk result (λ expanded. (expanded.model ≡ model)
+        × (expanded.events ≡ plain_events model.basics)) }
 {
     let mut events = Items::new(alloc);
     for place in 0..model.basics.len() {

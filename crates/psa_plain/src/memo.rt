@@ -63,7 +63,8 @@ impl Memo {
     pub fn set(&mut self, gate: u32, value: bool)
         ensures known { gate < length self.old.entries.items → recorded self.new gate ≡ Some value }
         ensures size { length self.new.entries.items ≡ length self.old.entries.items }
-        ensures only { (other : ℕ) (truth : Bool) → recorded self.new other ≡ Some truth → (recorded self.old other ≡ Some truth) ⊎ ((other ≡ gate) × (truth ≡ value)) }
+        ensures only { (other : ℕ) (truth : Bool) → recorded self.new other ≡ Some truth
+            → (recorded self.old other ≡ Some truth) ⊎ ((other ≡ gate) × (truth ≡ value)) }
     {
         let place = gate as usize;
         if place < self.entries.len() {

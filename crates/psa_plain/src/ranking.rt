@@ -73,7 +73,9 @@ fn rank_formula(
     requires within { within depth walk.now.expanded.now.model formula.now ≡ true }
     requires index { IsIndex walk.now.expanded.now walk.now.index.now }
     requires sound { IsSound walk.now.expanded.now ranking.old }
-    ensures { OnOk result (Ranked walk.now.expanded.now (λ n. within n walk.now.expanded.now.model formula.now) (λ n. visits n walk.now.expanded.now formula.now) ranking.old ranking.new) }
+    ensures { OnOk result (Ranked walk.now.expanded.now
+        (λ n. within n walk.now.expanded.now.model formula.now)
+        (λ n. visits n walk.now.expanded.now formula.now) ranking.old ranking.new) }
 {
     match formula {
         Formula::Gate(id) => rank_gate(walk, ranking, *id, depth),
@@ -92,7 +94,9 @@ fn rank_gate(walk: &Walk, ranking: &mut Ranking, id: GateId, depth: u32) -> Resu
     requires within { within depth walk.now.expanded.now.model (variant.Gate id) ≡ true }
     requires index { IsIndex walk.now.expanded.now walk.now.index.now }
     requires sound { IsSound walk.now.expanded.now ranking.old }
-    ensures { OnOk result (Ranked walk.now.expanded.now (λ n. within n walk.now.expanded.now.model (variant.Gate id)) (λ n. visits n walk.now.expanded.now (variant.Gate id)) ranking.old ranking.new) }
+    ensures { OnOk result (Ranked walk.now.expanded.now
+        (λ n. within n walk.now.expanded.now.model (variant.Gate id))
+        (λ n. visits n walk.now.expanded.now (variant.Gate id)) ranking.old ranking.new) }
 {
     if ranking.entered.contains(&id.0) {
         return Ok(());
@@ -115,10 +119,14 @@ fn rank_formulas(
     formulas: &[Formula],
     depth: u32,
 ) -> Result<(), OutOfMemory>
-    requires within { list_all (λ g. within depth walk.now.expanded.now.model g) formulas.now ≡ true }
+    requires within { list_all (λ g. within depth walk.now.expanded.now.model g) formulas.now
+        ≡ true }
     requires index { IsIndex walk.now.expanded.now walk.now.index.now }
     requires sound { IsSound walk.now.expanded.now ranking.old }
-    ensures { OnOk result (Ranked walk.now.expanded.now (λ n. list_all (λ g. within n walk.now.expanded.now.model g) formulas.now) (λ n. flat_map (λ g. visits n walk.now.expanded.now g) formulas.now) ranking.old ranking.new) }
+    ensures { OnOk result (Ranked walk.now.expanded.now
+        (λ n. list_all (λ g. within n walk.now.expanded.now.model g) formulas.now)
+        (λ n. flat_map (λ g. visits n walk.now.expanded.now g) formulas.now)
+        ranking.old ranking.new) }
 {
     for formula in formulas {
         rank_formula(walk, ranking, formula, depth)?;

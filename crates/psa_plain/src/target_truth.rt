@@ -40,7 +40,8 @@ impl<'a> TargetTruth<'a> {
         requires resolved { IsResolved expanded.now.model }
         requires index { IsIndex expanded.now index.now }
         requires top { IsTop expanded.now target.now }
-        ensures { IfOk result (λ made. truth_of made ≡ truth_by_rank expanded.now target.now ranks) }
+        ensures { IfOk result (λ made. truth_of made
+            ≡ truth_by_rank expanded.now target.now ranks) }
     {
         match target {
             Target::TopEvent(gate) => {

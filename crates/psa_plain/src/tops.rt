@@ -25,7 +25,9 @@ pub fn top_events(alloc: Global, model: &Model) -> Result<Targets, OutOfMemory>
 
 /// Lists the gate as a top event unless it is referred to.
 fn list_gate(targets: &mut Targets, place: u32, is_referred: bool) -> Result<(), OutOfMemory>
-    ensures { OnOk result (targets.new ≡ (if is_referred then targets.old else targets.old ++ Target.TopEvent (record { 0 = place }) ∷ [])) }
+    ensures { OnOk result (targets.new
+        ≡ (if is_referred then targets.old
+        else targets.old ++ Target.TopEvent (record { 0 = place }) ∷ [])) }
 {
     if !is_referred {
         targets.push(Target::TopEvent(GateId(place)))?;

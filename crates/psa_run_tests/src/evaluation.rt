@@ -72,7 +72,8 @@ fn model(alloc: Global, gates: &[(u32, &[u32])], basics: usize) -> Result<Model,
 
 /// The model where it is small.
 fn small(model: Model) -> Option<Model>
-    ensures { IfSome result (λ model. (length model.gates ≤ 2 ^ 32) × (length model.basics ≤ 2 ^ 32)) }
+    ensures { IfSome result (λ model. (length model.gates ≤ 2 ^ 32)
+        × (length model.basics ≤ 2 ^ 32)) }
 {
     if model.gates.len() <= 1000 && model.basics.len() <= 1000 {
         Some(model)
