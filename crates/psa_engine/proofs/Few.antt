@@ -1,4 +1,4 @@
--- A first model has few gates and few basic events.
+-- A first model has few gates, basic events and ranks; its sections are those without quantities.
 use Rattle.std.proofs.Common.{◌≡◌, ℕ, suc, ◌+◌, ◌≤◌, ◌^◌, Bool, true, false, cond, ◌&&◌, ◌||◌, nat_le, Option, Some, None, Result, Ok, Err, IfOk, List, [], ◌∷◌, ◌++◌, length, map, refl, sym, ap, ◌∙◌, subst, arith, option_and_then, append-nil}
 use Rattle.std.specs.Prelude.{codes}
 use Rattle.std.specs.List.{filter, flat_map, list_all}
@@ -40,6 +40,7 @@ when_true : {A P : Type 0} (b : Bool) (x : Option A) (y : A) → cond b x None �
 when_true true x y h next = next refl h
 when_true false x y h next = absurd (cc)
 
+-- a model of at most eight gates and twelve basic events
 pub record IsSmall (model : Model) : Type 0 where
   pub gates : length model.gates ≤ 8
   pub basics : length model.basics ≤ 12
@@ -85,11 +86,13 @@ small-content [] model h =
 small-content (element ∷ []) model h = small-fault_tree element model h
 small-content (element ∷ other ∷ elements) model h = absurd (cc)
 
+-- a first model is small
 pub small-model : (root : Element) (model : Model) → first_model root ≡ Some model → IsSmall model
 small-model root model h =
     when_true (is_tag (codes "opsa-mef") root && is_empty (out-Element root).attributes) _ model h (λ _ h1.
     small-content (out-Element root).children model h1)
 
+-- a model without groups has one event for each basic event
 pub length-events_from : (place : ℕ) (basics : List BasicEvent) → length (events_from place basics) ≡ length basics
 length-events_from place [] = refl
 length-events_from place (basic ∷ basics) = ap suc (length-events_from (place + 1) basics)
@@ -118,6 +121,7 @@ no-totals : (settings : Settings) (expanded : Expanded) (target : Target) (produ
     → total_lines settings (bounds_of (plain_analysis settings expanded) target products) ≡ []
 no-totals settings expanded target products rare_event mcub = rw (rare_event, mcub) refl
 
+-- at the first settings, a section is the one without quantities over all its products
 pub section-plain : (settings : Settings) (expanded : Expanded) (target : Target) (products : List (List ℕ)) → AreFirst settings
     → section_text (plain_analysis settings expanded) target (filter (is_kept_in (plain_analysis settings expanded) target) products)
     ≡ section_without_quantities expanded target (ranks_of expanded target) products
@@ -145,6 +149,7 @@ section-found settings expanded target ranks f sets text first are_ranks is_trut
           ∙ sym (section-plain settings expanded target (map positive_product sets) first);
     }
 
+-- what holds of an `Ok` follows from what is known of it
 pub IfOk-then : {T E : Type 0} (P Q : T → Type 0) (result : Result T E) → ((x : T) → P x → Q x) → IfOk result P → IfOk result Q
 IfOk-then P Q (Ok x) f holds = f x holds
 IfOk-then P Q (Err e) f holds = holds

@@ -18,6 +18,7 @@ even rank = omega arith
 half : (rank : ℕ) → (2 * rank) / 2 ≡ rank
 half rank = omega arith
 
+-- the text of a literal in which its event occurs is the name of the event
 pub literal_text-positive : (expanded : Expanded) (ranks : List EventNumber) (rank : ℕ) → literal_text expanded ranks (2 * rank) ≡ ranked_text expanded ranks rank
 literal_text-positive expanded ranks rank = rw (even rank, half rank) refl
 
@@ -28,6 +29,7 @@ literals-after expanded ranks [] = refl
 literals-after expanded ranks (rank ∷ set) =
     rw (literal_text-positive expanded ranks rank, literals-after expanded ranks set) refl
 
+-- the text of such a product is its first event, and the rest behind it
 pub literals_text-cons : (expanded : Expanded) (ranks : List EventNumber) (rank : ℕ) (set : List ℕ)
     → literals_text expanded ranks (positive_product (rank ∷ set)) ≡ ranked_text expanded ranks rank ++ events_after expanded ranks set
 literals_text-cons expanded ranks rank set =

@@ -30,6 +30,7 @@ pub ok-holds : {T E : Type 0} (P : Type 0) (result : Result T E) → is_err resu
 ok-holds P (Ok x) fine holds = holds
 ok-holds P (Err e) fine holds = absurd (cc)
 
+-- what holds on an `Err` follows from what is known of it
 pub OnErr-then : {T E : Type 0} (P Q : Type 0) (result : Result T E) → (P → Q) → OnErr result P → OnErr result Q
 OnErr-then P Q (Ok x) f holds = holds
 OnErr-then P Q (Err e) f holds = f holds
@@ -49,6 +50,7 @@ more-sections analysis targets i target text section within is_target so_far one
     subst (λ (some : List Target). AreSections analysis some (text ++ section)) (sym longer)
     (and_section (take i targets) text target section so_far one)
 
+-- the section of one more target was written whole
 pub sections-more : (analysis : Analysis) (targets : List Target) (i : ℕ) (target : Target) (section : List ℕ) (before mid after : Option (List ℕ))
     → i < length targets → target ≡ get_or targets i target
     → WritesSections analysis (take i targets) before mid → IsSection analysis target section → Appends mid after section
@@ -110,6 +112,7 @@ report-all analysis targets all before mid after whole same first sections = rec
   appended = appends-after before mid after (head_text analysis.settings) sections.text first sections.appended;
 }
 
+-- a head and a part of the sections are a part of the report
 pub report-part : (analysis : Analysis) (targets all : List Target) (before mid after : Option (List ℕ))
     → analysis.settings.validate ≡ false → targets ≡ all → Appends before mid (head_text analysis.settings) → WritesSectionsPart analysis targets mid after → WritesPart analysis all before after
 report-part analysis targets all before mid after whole same first sections = record {
@@ -132,6 +135,7 @@ tops-from expanded test place (gate ∷ gates) fits =
       | false ↦ tops-from expanded test (place + 1) gates (omega arith)
     ]
 
+-- the gates of all top events stand
 pub tops-stand : (expanded : Expanded) (targets : List Target) → targets ≡ top_targets expanded.model → All (IsTop expanded) targets
 tops-stand expanded targets same =
     subst (λ (some : List Target). All (IsTop expanded) some) (sym same)
@@ -142,6 +146,7 @@ head-of_file : (name : List ℕ) → head_text (first_settings name) ≡ codes "
 unfolding digits
 head-of_file name = refl
 
+-- the head of a report at the first settings, in letters
 pub head-spelled : (settings : Settings) → AreFirst settings → head_text settings ≡ codes "scram report\nalgorithm bdd\nproducts minimal-cut-sets\nlimit-order 20\n"
 head-spelled settings first = ap (λ (s : Settings). head_text s) first.1 ∙ head-of_file first.0
 

@@ -5,12 +5,15 @@ use Rattle.std.specs.List.{filter}
 use Rattle.std.specs.Option.{option_map}
 use Rattle.psa_first_reader.specs.Definitions.{all_some, cons_both}
 
+-- what was read so far, and behind it what the rest gives, if all of the rest is read
 abbrev pub collected : {A : Type 0} → List A → List (Option A) → Option (List A)
 collected so_far rest = option_map (λ ys. so_far ++ ys) (all_some rest)
 
+-- at the start, nothing was read: the whole is what the list gives
 pub collected_none : {A : Type 0} (rest : List (Option A)) → collected [] rest ≡ all_some rest
 collected_none rest = elim (all_some rest) as (λ r. option_map (λ ys. [] ++ ys) r ≡ r) [ None ↦ refl | Some ys ↦ refl ]
 
+-- at the end, no rest is left: the whole is what was read
 pub collected_all : {A : Type 0} (so_far : List A) → collected so_far [] ≡ Some so_far
 collected_all so_far = ap Some (append-nil so_far)
 
@@ -34,11 +37,13 @@ filter_kept p xs i x l e h =
     ap (λ ys. filter p ys) (drop_more xs i x l) ∙ ap (λ z. cond (p z) (z ∷ filter p (drop (i + 1) xs)) (filter p (drop (i + 1) xs))) (sym e)
     ∙ ap (λ b. cond b (x ∷ filter p (drop (i + 1) xs)) (filter p (drop (i + 1) xs))) h
 
+-- the element at a place is left out by the test
 pub filter_passed : {X : Type 0} (p : X → Bool) (xs : List X) (i : ℕ) (x : X) → i < length xs → x ≡ get_or xs i x → p x ≡ false → filter p (drop i xs) ≡ filter p (drop (i + 1) xs)
 filter_passed p xs i x l e h =
     ap (λ ys. filter p ys) (drop_more xs i x l) ∙ ap (λ z. cond (p z) (z ∷ filter p (drop (i + 1) xs)) (filter p (drop (i + 1) xs))) (sym e)
     ∙ ap (λ b. cond b (x ∷ filter p (drop (i + 1) xs)) (filter p (drop (i + 1) xs))) h
 
+-- behind the last element, the test keeps none
 pub filter_end : {X : Type 0} (p : X → Bool) (xs : List X) (i : ℕ) → length xs ≤ i → filter p (drop i xs) ≡ []
 filter_end p xs i l = ap (λ ys. filter p ys) (drop_all i xs l)
 
@@ -46,6 +51,7 @@ filter_end p xs i l = ap (λ ys. filter p ys) (drop_all i xs l)
 pub at_place : {X Y : Type 0} (f : X → Y) (xs : List X) (i : ℕ) (x : X) → i < length xs → x ≡ get_or xs i x → map f (drop i xs) ≡ f x ∷ map f (drop (i + 1) xs)
 at_place f xs i x l e = ap (λ ys. map f ys) (drop_more xs i x l) ∙ ap (λ z. f z ∷ map f (drop (i + 1) xs)) (sym e)
 
+-- as many are read as there are in the list
 pub length-all_some : {A : Type 0} (xs : List (Option A)) (ys : List A) → all_some xs ≡ Some ys → length ys ≡ length xs
 length-all_some [] ys h = let e : ys ≡ [] = cc in ap length e
 length-all_some (None ∷ xs) ys h = absurd (cc)
@@ -56,5 +62,6 @@ length-all_some (Some x ∷ xs) ys h =
     consed x None ys n ih h = absurd (cc)
     consed x (Some zs) ys n ih h = let e : ys ≡ x ∷ zs = cc in ap length e ∙ ap suc (ih zs refl)
 
+-- as many are read as there are elements to read from
 pub length-all_some_map : {X A : Type 0} (f : X → Option A) (xs : List X) (ys : List A) → all_some (map f xs) ≡ Some ys → length ys ≡ length xs
 length-all_some_map f xs ys h = length-all_some (map f xs) ys h ∙ length-map xs f

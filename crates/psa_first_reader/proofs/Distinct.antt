@@ -8,6 +8,7 @@ and_false : (b : Bool) → (b && false) ≡ false
 and_false true = refl
 and_false false = refl
 
+-- names are not distinct where the last ones of them are not
 pub distinct_behind : (names others : List (List ℕ)) → are_distinct others ≡ false → are_distinct (names ++ others) ≡ false
 distinct_behind [] others h = h
 distinct_behind (name ∷ names) others h =

@@ -176,6 +176,7 @@ gate_read names place e gate h =
     subst (λ (g : Gate). IsRead names place e g) (some_same _ gate h2)
     (record { child = child; is = child_is; shallow = omega (arith, depth_out e); tree = refl }))))
 
+-- a gate that is read from the element at a place
 pub record IsReadAt (names : Names) (start : ℕ) (es : List Element) (i : ℕ) (gate : Gate) : Type 0 where
   pub element : Element
   pub there : slice_get es i ≡ Some element
@@ -281,6 +282,7 @@ content_resolved [] model shallow h =
 content_resolved (e ∷ []) model shallow h = fault_tree_resolved e model (omega arith) h
 content_resolved (e ∷ other ∷ es) model shallow h = absurd (cc)
 
+-- the first model of a tree of at most 64 levels is resolved
 pub first_model_resolved : (root : Element) (model : Model) → depth root ≤ 64 → first_model root ≡ Some model → IsResolved model
 first_model_resolved root model shallow h =
     with_test (is_tag (codes "opsa-mef") root && is_empty (out-Element root).attributes) _ model h (λ _ h1.

@@ -25,6 +25,7 @@ filter-part p (x ∷ xs) =
       | false ↦ part-skip xs x (filter p xs) (filter-part p xs)
     ]
 
+-- a number that passes is in what is kept exactly where it is in the list
 pub filter-occurs : (p : ℕ → Bool) (xs : List ℕ) (n : ℕ) → p n ≡ true → occurs (filter p xs) n ≡ occurs xs n
 filter-occurs p [] n h = refl
 filter-occurs p (x ∷ xs) n h = at_first (filter-occurs p xs n h) (p x) refl
@@ -36,6 +37,7 @@ filter-occurs p (x ∷ xs) n h = at_first (filter-occurs p xs n h) (p x) refl
       | inr apart ↦ rw apart.0 rest
     ]
 
+-- what is kept passes
 pub filter-passes : (p : ℕ → Bool) (xs : List ℕ) (n : ℕ) → Has (filter p xs) n → p n ≡ true
 filter-passes p [] n m = absurd m
 filter-passes p (x ∷ xs) n m = at_first (filter-passes p xs n) (p x) refl m
@@ -60,6 +62,7 @@ positive-above x (y ∷ ys) h =
     let l : x < y = ltb-true x y p.0 in
     and_from (nat_lt (2 * x) (2 * y)) (all_above (2 * x) (positive_product ys)) (lt-ltb (2 * x) (2 * y) (omega (arith, l))) (positive-above x ys p.1)
 
+-- an ascending set gives an ascending product
 pub positive-ascending : (xs : List ℕ) → is_ascending xs ≡ true → is_ascending (positive_product xs) ≡ true
 positive-ascending [] h = refl
 positive-ascending (x ∷ xs) h =
@@ -125,6 +128,7 @@ cut_set_decided f limit set = elim (cases_Bool (is_ascending set && f (occurs se
           leb-true (length set) limit p.1,
         )
 
+-- whether a product is a minimal cut set within the limit is decided
 pub cut_decided : (f : (ℕ → Bool) → Bool) (limit : ℕ) (product : List ℕ) → IsCutProduct f limit product ⊎ (IsCutProduct f limit product → ⊥)
 cut_decided f limit product = elim (same_list product (positive_product (map (λ literal. rank_of literal) product))) [
   | inr other ↦ inr (λ c. other (c.is_set ∙ ap positive_product (sym (ranks c))))

@@ -25,6 +25,7 @@ at-connective operator least most arguments =
 gate-contents : contents_of gate_draft ≡ record { nesting = 2; has_numbers = true; references = record { name = 97 ∷ []; place = record { file = 0; line = 3 }; tag = 4 } ∷ record { name = 98 ∷ []; place = record { file = 0; line = 3 }; tag = 5 } ∷ []; paths = []; formulas = 0 }
 gate-contents = simp (at-event, at-connective) refl
 
+-- a gate in its fault tree makes a draft
 pub gate-is-draft : IsDraft gate_draft
 gate-is-draft = record {
   bodies = All-from_recursion (λ (definition : DraftDefinition). has_body definition.kind definition.body ≡ true) gate_draft.definitions (refl, (refl, (refl, (refl, tt))));
@@ -37,5 +38,6 @@ gate-is-draft = record {
   few = let collected = ap (λ (c : Contents). c.formulas) gate-contents in omega (arith, collected);
 }
 
+-- a gate without its fault tree makes none
 pub stray-is-none : IsDraft stray_draft → ⊥
 stray-is-none draft = false≢true draft.containers

@@ -140,12 +140,14 @@ above-numbers x from zero l = refl
 above-numbers x from (suc count) l =
     and_from _ (all_above x (numbers_from (suc from) count)) (lt-ltb x from l) (above-numbers x (suc from) count (omega arith))
 
+-- the numbers from one on ascend
 pub ascending-numbers : (from count : ℕ) → is_ascending (numbers_from from count) ≡ true
 ascending-numbers from zero = refl
 ascending-numbers from (suc count) =
     and_from (all_above from (numbers_from (suc from) count)) (is_ascending (numbers_from (suc from) count))
     (above-numbers from (suc from) count (omega arith)) (ascending-numbers (suc from) count)
 
+-- each number of the range is among them
 pub has-numbers : (from count n : ℕ) → from ≤ n → n < from + count → Has (numbers_from from count) n
 has-numbers from zero n low high = absurd (omega arith)
 has-numbers from (suc count) n low high = elim (eqb_tells from n) [
@@ -161,6 +163,7 @@ pub record IsBelow (bound : ℕ) (xs : List ℕ) : Type 0 where
   pub ascending : is_ascending xs ≡ true
   pub below : (n : ℕ) → Has xs n → n < bound
 
+-- a decided kind of product over numbers below a bound has a listing
 pub listing-exists : (IsOne : List ℕ → Type 0) (bound : ℕ) → ((z : List ℕ) → IsOne z → IsBelow bound z) → ((z : List ℕ) → IsOne z ⊎ (IsOne z → ⊥)) → (products : List (List ℕ)) × IsListing IsOne products
 listing-exists IsOne bound bounded decide =
     let all = listed IsOne decide (parts_of (numbers_from 0 bound)) in (

@@ -8,6 +8,7 @@ use Rattle.psa_model.specs.Values.{interval_value, values_of}
 use Rattle.psa_model.specs.GroupExample.{group_model, three_members, shared, exactly}
 use Rattle.psa_model.proofs.ExpressionForms.{interval-suc, out-number, out-operation}
 
+-- the subsets of the group, by order and then by members, as bits
 pub events : (expanded_of true group_model).events ≡ map shared (1 ∷ 2 ∷ 4 ∷ 3 ∷ 5 ∷ 6 ∷ 7 ∷ [])
 events = refl
 
@@ -24,5 +25,6 @@ one_alone : (n : ℕ) (mission : Scaled) → interval_value (suc (suc (suc (suc 
 unfolding choose
 one_alone n mission = simp (interval-suc, out-number, out-operation) refl
 
+-- the quantities of the subsets, in units of 10^-12
 pub values : (mission : Scaled) → values_of mission (expanded_of true group_model) ≡ Ok (map exactly (80_000_000_000 ∷ 80_000_000_000 ∷ 80_000_000_000 ∷ 5_000_000_000 ∷ 5_000_000_000 ∷ 5_000_000_000 ∷ 10_000_000_000 ∷ []))
 values mission = rw (one_alone 996 mission, two_of_them 996 mission, all_three 996 mission) refl

@@ -218,6 +218,7 @@ bounds-are es xs all ranks (product ∷ products) = (bound-is es xs all ranks pr
 
 -- ---- of the values of a model
 
+-- where all quantities have intervals, the interval of a bound or total holds its exact value
 pub bound-held : (terms : ℕ) → last_term ≤ terms → (mission : Scaled) (expanded : Expanded) (values : List Ends) → values_of mission expanded ≡ Ok values → (ranks : List EventNumber) (product : List ℕ) → Holds (bound_of values ranks product) (exact_bound (quantities_of terms mission expanded) ranks product)
 bound-held terms long mission expanded values is ranks product =
     (bound-is values (quantities_of terms mission expanded) (events-are terms long mission expanded.model expanded.events values is) ranks product).holds

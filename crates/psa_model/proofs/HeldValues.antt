@@ -130,6 +130,7 @@ layer-held terms long mission model below exact each Expression-F.MissionTime a 
 layer-held terms long mission model below exact each (Expression-F.Operation operator arguments) a is =
     on-held terms long operator (all_computed (map below arguments)) (map exact arguments) (λ es. arguments-held below exact each arguments es) a is
 
+-- the interval of an expression holds its exact value
 pub value-held : (n terms : ℕ) → last_term ≤ terms → (mission : Scaled) (model : Model) (e : Expression) (a : Ends) → interval_value n mission model e ≡ Ok a → Holds a (exact_value n terms mission model e)
 unfolding interval_value exact_value
 value-held zero terms long mission model e a is = absurd (cc)
@@ -156,11 +157,13 @@ expression-held terms long mission model (Some e) a is =
 pub event-held : (terms : ℕ) → last_term ≤ terms → (mission : Scaled) (model : Model) (event : ExpandedEvent) (a : Ends) → event_interval mission model event ≡ Ok a → Holds a (exact_quantity terms mission model event)
 event-held terms long mission model event a is = expression-held terms long mission model (expression_of model event) a is
 
+-- intervals that were put together: the first event has one, and the rest have theirs
 pub and-event-parts : (there : Option (Place × List ℕ)) (one : Result Ends FaultKind) (rest : Result (List Ends) ModelFault) (es : List Ends) → and_event there one rest ≡ Ok es → (P : List Ends → Type 0) → ((a : Ends) (more : List Ends) → one ≡ Ok a → rest ≡ Ok more → P (a ∷ more)) → P es
 and-event-parts there (Err kind) rest es is P each = absurd (cc)
 and-event-parts there (Ok a) (Err found) es is P each = absurd (cc)
 and-event-parts there (Ok a) (Ok more) es is P each = let these : a ∷ more ≡ es = cc in subst P these (each a more refl refl)
 
+-- the intervals of events hold their exact quantities, each its own
 pub events-held : (terms : ℕ) → last_term ≤ terms → (mission : Scaled) (model : Model) (events : List ExpandedEvent) (es : List Ends) → values_from mission model events ≡ Ok es → AllZip Holds es (map (exact_quantity terms mission model) events)
 events-held terms long mission model [] es is = let these : [] ≡ es = cc in subst (λ (l : List Ends). AllZip Holds l []) these tt
 events-held terms long mission model (event ∷ events) es is =

@@ -46,6 +46,7 @@ group-is-group = record {
   levels = refl;
 }
 
+-- the example with a group has what is promised of a model
 pub group-is-model : IsModel group_model
 group-is-model = record {
   resolved = group-resolved;

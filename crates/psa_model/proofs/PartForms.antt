@@ -15,6 +15,7 @@ use Rattle.psa_model.specs.Truth.{house_states}
 between-all : {A : Type 0} (xs : List A) → between 0 (length xs) xs ≡ xs
 between-all xs = let none : length xs - 0 ≡ length xs = omega arith in ap (λ n. take n xs) none ∙ take-length xs
 
+-- the truth of the whole target is a part of it
 pub whole-part : (expanded : Expanded) (target : Target) → IsPart expanded target (truth_by_rank expanded target (ranks_of expanded target))
 whole-part expanded (TopEvent gate) = record {
   part = truth_over expanded (TopEvent gate) (house_states expanded.model) (variant.Gate gate);
@@ -27,5 +28,6 @@ whole-part expanded (Sequence initiating sequence paths) = record {
   same = λ s. ap (λ (all : List (List PathStep)). list_any (λ path. all_true expanded (Sequence initiating sequence paths) (collected_on expanded path) s) all) (sym (between-all paths));
 }
 
+-- the opposite of a simple part is a part
 pub opposite-part : (expanded : Expanded) (target : Target) (f : Truth) → IsSimplePart expanded target f → IsPart expanded target (λ s. not (f s))
 opposite-part expanded target f simple = record { part = λ s. not (f s); is_part = one _ (opposite target f simple); same = λ s. refl }

@@ -54,6 +54,7 @@ abbrev pub IsShort : ℕ → Arrival → Type 0
 IsShort n too_long = Unit {0}
 IsShort n (arrives a) = length a.path ≤ n
 
+-- arrivals of at most n steps each
 abbrev pub AreShort : ℕ → List Arrival → Type 0
 AreShort n = AllByRecursion (IsShort n)
 

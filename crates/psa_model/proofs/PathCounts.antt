@@ -20,6 +20,7 @@ none-left false found later h = (refl, h)
 some-left : (left : ℕ) → (left == 0) ≡ false → 1 ≤ left
 some-left left h = grind (arith, nat_tests)
 
+-- so many paths at most, each of which arrived
 abbrev pub Counted : ℕ → List (Initiating × Arrival) → Type 0
 Counted left all = (length all ≤ left) × AllByRecursion (λ one. HasArrived one.1) all
 
@@ -36,9 +37,11 @@ count-faultless left [] h = (omega arith, tt)
 count-faultless left (one ∷ more) h =
     count-step left one more one.1 refl (λ k. count-faultless (left - 1) more k) h
 
+-- where no fault is found, there are no more paths than may be
 pub few-paths : (model : Model) → walk_fault model ≡ None → length (joined_paths model 0 model.initiatings) ≤ MAX_PATHS
 few-paths model h = (count-faultless MAX_PATHS (joined_paths model 0 model.initiatings) h).0
 
+-- where no fault is found, each path arrived
 pub all-arrived : (model : Model) → walk_fault model ≡ None → All (λ one. HasArrived one.1) (joined_paths model 0 model.initiatings)
 all-arrived model h =
     All-from_recursion (λ (one : Initiating × Arrival). HasArrived one.1) (joined_paths model 0 model.initiatings)
@@ -48,9 +51,11 @@ all-arrived model h =
 sequences-none : (model : Model) (initiatings : List Initiating) → initiatings ≡ [] → all_sequences model 0 initiatings ≡ []
 sequences-none model initiatings h = ap (all_sequences model 0) h
 
+-- without initiating events, the targets are the top events
 pub targets-alone : (model : Model) → model.initiatings ≡ [] → targets_of model ≡ top_targets model
 targets-alone model h =
     ap (λ (more : List Target). top_targets model ++ more) (sequences-none model model.initiatings h) ∙ append-nil (top_targets model)
 
+-- without initiating events, no walk has a fault
 pub no-walk-fault : (model : Model) → model.initiatings ≡ [] → walk_fault model ≡ None
 no-walk-fault model h = ap (λ (initiatings : List Initiating). first_fault MAX_PATHS (joined_paths model 0 initiatings)) h

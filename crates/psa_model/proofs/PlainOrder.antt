@@ -13,5 +13,6 @@ each-plain : (on : Bool) (model : Model) (ids : List EventId) → flat_map (even
 each-plain on model [] = refl
 each-plain on model (id ∷ ids) = ap (λ (l : List ExpandedEvent). expanded.Basic id ∷ l) (each-plain on model ids)
 
+-- expanded or not, the events are the basic events, in their order
 pub plain : (on : Bool) (model : Model) (ids : List EventId) → model.order ≡ map (λ id. valued.Basic id) ids → (expanded_of on model).events ≡ map (λ id. expanded.Basic id) ids
 plain on model ids h = ap (λ (order : List Valued). flat_map (events_of_valued model on) order) h ∙ each-plain on model ids

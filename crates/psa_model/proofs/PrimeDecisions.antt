@@ -55,6 +55,7 @@ prime-below f width product looks prime literal has =
 literal-below : (literal width : ℕ) → rank_of literal < width → literal < 2 * width
 literal-below literal width l = omega (arith, l)
 
+-- a prime implicant holds literals of ranks below the width alone
 pub prime_product-below : (f : (ℕ → Bool) → Bool) (width limit : ℕ) → LooksBelow width f → (product : List ℕ) → IsPrimeProduct f limit product → IsBelow (2 * width) product
 prime_product-below f width limit looks product one = record {
   ascending = one.prime.ascending;
@@ -128,6 +129,7 @@ true-tells : {A : Type 0} (decision : A ⊎ (A → ⊥)) → A → tells decisio
 true-tells (inl holds_so) a = refl
 true-tells (inr fails_so) a = absurd (fails_so a)
 
+-- whether a product is a prime implicant within the limit is decided
 pub prime_decided : (f : (ℕ → Bool) → Bool) (width limit : ℕ) → LooksBelow width f → (product : List ℕ) → IsPrimeProduct f limit product ⊎ (IsPrimeProduct f limit product → ⊥)
 prime_decided f width limit looks product = elim (cases_Bool (is_ascending product && is_consistent product && nat_le (length product) limit)) [
   | inr fails ↦ inr (λ one. false≢true (sym fails ∙ and_from (is_ascending product && is_consistent product) (nat_le (length product) limit) (and_from (is_ascending product) (is_consistent product) one.prime.ascending one.prime.consistent) (le-leb (length product) limit one.within)))

@@ -48,11 +48,13 @@ product-decided : (mode : Mode) (f : (ℕ → Bool) → Bool) (width limit : ℕ
 product-decided CutSets f width limit looks product = cut_decided f limit product
 product-decided Primes f width limit looks product = prime_decided f width limit looks product
 
+-- each literal of a product of a target is of one of its ranks
 pub product-has_ranks : (analysis : Analysis) (target : Target) (product : List ℕ) → IsProductOf analysis target product → (literal : ℕ) → Has product literal → rank_of literal < length (ranks_of analysis.expanded target)
 product-has_ranks analysis target =
     product-ranks analysis.settings.mode (ranked_truth analysis.expanded target) (length (ranks_of analysis.expanded target)) analysis.settings.limit_order
     (truth-agree analysis.expanded target (ranks_of analysis.expanded target))
 
+-- the products of a target have a listing
 pub target-listing : (analysis : Analysis) (target : Target) → (products : List (List ℕ)) × IsListing (IsProductOf analysis target) products
 target-listing analysis target =
     let f : (ℕ → Bool) → Bool = ranked_truth analysis.expanded target in

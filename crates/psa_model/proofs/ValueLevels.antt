@@ -56,6 +56,7 @@ exact-same terms mission model test f1 f2 same (Expression-F.Operation operator 
     let parts = and_parts (has_operands operator (length arguments)) (list_all test arguments) h in
     ap (λ values. exact_operation terms operator values) (same-map test f1 f2 same arguments parts.1)
 
+-- one level more than are enough does not change the exact value
 pub exact-more : (n terms : ℕ) (mission : Scaled) (model : Model) (e : Expression) → value_within n model e ≡ true → exact_value (suc n) terms mission model e ≡ exact_value n terms mission model e
 unfolding value_within exact_value
 exact-more zero terms mission model e h = absurd (cc)
@@ -70,6 +71,7 @@ interval-same mission model test f1 f2 same (Expression-F.Operation operator arg
     let parts = and_parts (has_operands operator (length arguments)) (list_all test arguments) h in
     ap (λ values. on_values operator (all_computed values)) (same-map test f1 f2 same arguments parts.1)
 
+-- one level more than are enough does not change the interval
 pub interval-more : (n : ℕ) (mission : Scaled) (model : Model) (e : Expression) → value_within n model e ≡ true → interval_value (suc n) mission model e ≡ interval_value n mission model e
 unfolding value_within interval_value
 interval-more zero mission model e h = absurd (cc)

@@ -17,6 +17,7 @@ use Rattle.psa_model.proofs.ExpressionForms.{interval-suc, exact-suc, out-number
 out-mission : out-Expression expression.MissionTime ≡ Expression-F.MissionTime
 out-mission = ap out-Expression (sym expression.rolls-MissionTime) ∙ out-roll-Expression Expression-F.MissionTime
 
+-- the intervals and exact values of the example expressions, at levels enough
 pub third-interval : (n : ℕ) (mission : Scaled) (model : Model) → interval_value (suc (suc (suc n))) mission model thrice_a_third ≡ Ok (record { lo = pos 999_999_999_999; hi = pos 1_000_000_000_002 })
 third-interval n mission model = simp (interval-suc, out-number, out-operation) refl
 
@@ -36,6 +37,7 @@ exponential-interval n model = simp (interval-suc, out-number, out-mission, out-
 pub two-interval : (n : ℕ) (mission : Scaled) (model : Model) → interval_value (suc n) mission model (whole_number 2) ≡ Ok (record { lo = pos 2_000_000_000_000; hi = pos 2_000_000_000_000 })
 two-interval n mission model = simp (interval-suc, out-number) refl
 
+-- the values of the example expressions, held to 1
 pub third-value : (mission : Scaled) → value_at mission (Some thrice_a_third) ≡ Ok (record { lo = pos 999_999_999_999; hi = pos 1_000_000_000_000 } ∷ [])
 third-value mission = rw (third-interval 997 mission (one_event_model (Some thrice_a_third))) refl
 
@@ -45,6 +47,7 @@ small-value mission = rw (small-interval 999 mission (one_event_model (Some (exp
 pub exponential-value : value_at (scaled 8760 (pos 0)) (Some (failing_at (scaled 1 (negsuc 5)))) ≡ Ok (record { lo = pos 8_721_742_990; hi = pos 8_721_742_995 } ∷ [])
 exponential-value = rw (exponential-interval 998 (one_event_model (Some (failing_at (scaled 1 (negsuc 5)))))) refl
 
+-- the faults of the example values: none given, a division by zero, above 1
 pub missing-fault : (mission : Scaled) → value_at mission None ≡ Err (fault_of_a fault.NoValue)
 missing-fault mission = refl
 

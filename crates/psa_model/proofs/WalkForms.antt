@@ -23,6 +23,7 @@ use Rattle.psa_model.specs.declared.walks.Test.TheFolds.{fold-Test, fold-roll-Te
 use Rattle.psa_model.specs.declared.walks.Test.TheVariants as test
 use Rattle.psa_model.specs.Paths.{Travelled, carried, one_carried, arrivals, after_instructions, end_arrivals}
 
+-- the layer of each form of instruction
 pub out-collect : (id : FormulaId) → out-Instruction (instruction.Collect id) ≡ Instruction-F.Collect id
 out-collect id = ap out-Instruction (sym (instruction.rolls-Collect id)) ∙ out-roll-Instruction (Instruction-F.Collect id)
 
@@ -39,6 +40,7 @@ pub out-if : (condition : Test) (first second : List Instruction) → out-Instru
 out-if condition first second =
     ap out-Instruction (sym (instruction.rolls-If condition first second)) ∙ out-roll-Instruction (Instruction-F.If condition first second)
 
+-- the layer of each end of a branch
 pub out-to : (id : SequenceId) → out-BranchEnd (end.Sequence id) ≡ BranchEnd-F.Sequence id
 out-to id = ap out-BranchEnd (sym (end.rolls-Sequence id)) ∙ out-roll-BranchEnd (BranchEnd-F.Sequence id)
 
@@ -48,6 +50,7 @@ out-named id = ap out-BranchEnd (sym (end.rolls-Branch id)) ∙ out-roll-BranchE
 pub out-fork : (id : FunctionalId) (paths : List ForkPath) → out-BranchEnd (end.Fork id paths) ≡ BranchEnd-F.Fork id paths
 out-fork id paths = ap out-BranchEnd (sym (end.rolls-Fork id paths)) ∙ out-roll-BranchEnd (BranchEnd-F.Fork id paths)
 
+-- a fold over tests, at each form of test
 pub test-initiating : (step : Test-F Bool → Bool) (id : InitiatingId) → fold-Test Bool step (test.Initiating id) ≡ step (Test-F.Initiating id)
 test-initiating step id = ap (fold-Test Bool step) (sym (test.rolls-Initiating id)) ∙ fold-roll-Test Bool step (Test-F.Initiating id)
 
@@ -62,10 +65,12 @@ pub carried-nil : (left : ℕ) (model : Model) (initiating : ℕ) (along : Trave
 unfolding carried
 carried-nil left model initiating along = refl
 
+-- instructions one after another: the first is carried out, then the rest
 pub carried-suc : (left : ℕ) (model : Model) (initiating : ℕ) (one : Instruction) (rest : List Instruction) (along : Travelled) → carried (suc left) model initiating (one ∷ rest) along ≡ one_carried model initiating (λ is a. carried left model initiating is a) rest along (out-Instruction one)
 unfolding carried
 carried-suc left model initiating one rest along = refl
 
+-- the arrivals of a branch are those of its end, behind its instructions
 pub arrivals-suc : (levels : ℕ) (model : Model) (initiating left : ℕ) (branch : Branch) (along : Travelled) → arrivals (suc levels) model initiating left branch along ≡ after_instructions (carried left model initiating branch.instructions along) (λ l a. end_arrivals model initiating (λ m b c. arrivals levels model initiating m b c) l a (out-BranchEnd branch.end))
 unfolding arrivals
 arrivals-suc levels model initiating left branch along = refl

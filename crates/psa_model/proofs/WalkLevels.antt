@@ -65,6 +65,7 @@ instruction-more-layer n model below above more (Instruction-F.If test first sec
     let inside = and_parts (test_within n model test) (list_all below (first ++ second)) numbers.1 in
     and-both _ _ numbers.0 (and-both _ _ (test-more n model test inside.0) (all-more below above more (first ++ second) inside.1))
 
+-- an instruction within some levels is within one more
 pub instruction-more : (n : ℕ) (model : Model) (one : Instruction) → instruction_within n model one ≡ true → instruction_within (suc n) model one ≡ true
 unfolding instruction_within
 instruction-more zero model one h = absurd (false≢true h)
@@ -89,6 +90,7 @@ end-more n model below above more (BranchEnd-F.Sequence id) h =
 end-more n model below above more (BranchEnd-F.Branch id) h =
     there-more _ _ (λ (named : NamedBranch). more named.branch) (slice_get model.branches id.0) h
 
+-- a branch whose walk is within some levels has it within one more
 pub walk-more : (n : ℕ) (model : Model) (branch : Branch) → walk_within n model branch ≡ true → walk_within (suc n) model branch ≡ true
 unfolding walk_within
 walk-more zero model branch h = absurd (false≢true h)
@@ -112,6 +114,7 @@ end-ways n model below above more (BranchEnd-F.Sequence id) h =
 end-ways n model below above more (BranchEnd-F.Branch id) h =
     there-more _ _ (λ (named : NamedBranch). more named.branch) (slice_get model.branches id.0) h
 
+-- where a walk is within some levels, so many branches are enough for its ways
 pub walk-ways : (n : ℕ) (model : Model) (branch : Branch) → walk_within n model branch ≡ true → branch_within n model branch ≡ true
 unfolding walk_within branch_within
 walk-ways zero model branch h = absurd (false≢true h)

@@ -19,9 +19,11 @@ use Rattle.psa_model.specs.ConditionExample.{condition_model, condition_start, c
 use Rattle.psa_model.specs.EventTreeExample.{event_tree_model, first_tree, sets_house}
 use Rattle.psa_model.proofs.WalkForms.{out-collect, out-set, out-rule, out-if, out-to, out-fork, test-initiating, test-functional, test-all, carried-nil, carried-suc, arrivals-suc}
 
+-- no step was made yet
 abbrev pub at_start : Travelled
 at_start = record { steps = []; forks = [] }
 
+-- an arrival at the sequence at a place, with these steps
 abbrev pub arriving : ℕ → List PathStep → Arrival
 arriving place path = arrives (record { sequence = record { 0 = place }; path = path })
 
@@ -31,9 +33,11 @@ walked n l = simp (arrivals-suc, carried-suc, carried-nil, out-fork, out-to, out
 walked-second : (n l : ℕ) → arrivals (suc (suc n)) condition_model 1 (suc (suc (suc (suc l)))) condition_start at_start ≡ arriving 0 (collects 1 ∷ []) ∷ arriving 0 (collects 1 ∷ []) ∷ []
 walked-second n l = simp (arrivals-suc, carried-suc, carried-nil, out-fork, out-to, out-collect, out-rule, out-if, test-initiating, test-functional, test-all) refl
 
+-- in the example with a condition, no walk has a fault
 pub condition-fault : walk_fault condition_model ≡ None
 condition-fault = rw (walked 498 252, walked-second 498 252) refl
 
+-- the targets of the example with a condition, each with its paths
 pub condition-targets : targets_of condition_model ≡ sequence_target 0 0 ((collects 1 ∷ []) ∷ (collects 0 ∷ []) ∷ []) ∷ sequence_target 1 0 ((collects 1 ∷ []) ∷ (collects 1 ∷ []) ∷ []) ∷ []
 condition-targets = rw (walked 498 252, walked-second 498 252) refl
 
@@ -56,8 +60,10 @@ tree-tops = simp (refers-basic, refers-house, refers-connective) refl
 tree-walked : (n l : ℕ) → arrivals (suc (suc (suc (suc n)))) event_tree_model 0 (suc (suc (suc (suc (suc l))))) first_tree at_start ≡ arriving 0 (collects 0 ∷ []) ∷ arriving 1 (collects 1 ∷ sets_house ∷ collects 2 ∷ []) ∷ arriving 1 (collects 1 ∷ collects 3 ∷ []) ∷ arriving 3 (collects 1 ∷ sets_house ∷ collects 4 ∷ []) ∷ []
 tree-walked n l = simp (arrivals-suc, carried-suc, carried-nil, out-fork, out-to, out-collect, out-set, compare.suc-zero, sub-one) refl
 
+-- in the example of event trees, no walk has a fault
 pub tree-fault : walk_fault event_tree_model ≡ None
 tree-fault = rw (tree-walked 496 251) refl
 
+-- the targets of the example of event trees, each with its paths
 pub tree-targets : targets_of event_tree_model ≡ target.TopEvent (record { 0 = 0 }) ∷ target.TopEvent (record { 0 = 1 }) ∷ sequence_target 0 0 ((collects 0 ∷ []) ∷ []) ∷ sequence_target 0 1 ((collects 1 ∷ sets_house ∷ collects 2 ∷ []) ∷ (collects 1 ∷ collects 3 ∷ []) ∷ []) ∷ sequence_target 0 3 ((collects 1 ∷ sets_house ∷ collects 4 ∷ []) ∷ []) ∷ []
 tree-targets = rw (tree-tops, tree-walked 496 251) refl

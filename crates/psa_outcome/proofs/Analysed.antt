@@ -48,6 +48,7 @@ goes-on found later p = ap (λ f. unless f later) p
 if-fault : shape_fault (stray_if ∷ []) ≡ Some (record { kind = UnknownElement; file = 0; line = 1; name = codes "if" })
 if-fault = simp (fold-roll-Element ElementFaults (faults_layer 0)) refl
 
+-- a stray `if` is the first fault
 pub stray-if : (settings : Settings) → analysis_of settings (stray_if ∷ []) ≡ Err (record { kind = UnknownElement; file = 0; line = 1; name = codes "if" })
 stray-if settings =
     stops (shape_fault (stray_if ∷ [])) (λ u. analysis_of_draft settings (draft_of (stray_if ∷ [])))
@@ -125,10 +126,12 @@ chosen settings has =
     if has then with_values settings (expanded_of settings.ccf no_value_model) (values_of settings.mission (expanded_of settings.ccf no_value_model))
     else Ok (record { settings = settings; expanded = expanded_of settings.ccf no_value_model; values = None })
 
+-- where quantities are asked for, an event without a value is a fault
 pub asked : (settings : Settings) → has_quantities settings ≡ true → analysis_of settings (no_value_tree ∷ []) ≡ Err no_value_fault
 asked settings has =
     left settings ∙ ap (chosen settings) has
     ∙ ap (with_values settings (expanded_of settings.ccf no_value_model)) (valued settings.mission settings.ccf)
 
+-- where none are asked for, it is none
 pub not-asked : (settings : Settings) → has_quantities settings ≡ false → analysis_of settings (no_value_tree ∷ []) ≡ Ok (record { settings = settings; expanded = expanded_of settings.ccf no_value_model; values = None })
 not-asked settings has = left settings ∙ ap (chosen settings) has

@@ -39,12 +39,14 @@ fault-cases settings names told _ (of_text before name behind roots found files 
     inl (record { before = before; name = name; behind = behind; roots = roots; found = found; files = files; trees = trees; reads = reads; is = refl })
 fault-cases settings names told _ (of_trees roots found trees analysed) = inr (record { roots = roots; trees = trees; analysed = analysed })
 
+-- no result is both `Ok` and `Err`
 pub ok-err : {A B : Type 0} {x : A} {e : B} → ◌≡◌ {A = Result A B} (Ok x) (Err e) → ⊥
 ok-err p = absurd (cc)
 
 ok-same : {A B : Type 0} {x y : A} → ◌≡◌ {A = Result A B} (Ok x) (Ok y) → x ≡ y
 ok-same p = cc
 
+-- two `Err` that are the same have the same fault
 pub err-same : {A B : Type 0} {x y : B} → ◌≡◌ {A = Result A B} (Err x) (Err y) → x ≡ y
 err-same p = cc
 
@@ -179,6 +181,7 @@ module _ (each : EachReads) (told : Told) where
 
 -- ---- its report
 
+-- an input has one report, if each text comes to one thing
 pub reports-same : (once : ReadsOnce) (told : Told) (settings : Settings) (names : List (List ℕ)) (one other : Analysis) (text more : List ℕ) → IsAnalysis settings names told one → IsAnalysis settings names told other → IsReport one (all_targets one) text → IsReport other (all_targets other) more → text ≡ more
 reports-same once told settings names one other text more p q x y =
     report-determined other (all_targets other) text more (subst (λ (a : Analysis). IsReport a (all_targets a) text) same x) y

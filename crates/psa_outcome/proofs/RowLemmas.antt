@@ -16,6 +16,7 @@ first-of : (settings : Settings) (told : Option Told) (files : Told) (found : Mo
 first-of settings told files found is cause =
     subst (λ (o : Option Told). MatchOption o ⊤ (λ files. IsFirstFault settings (names_of settings.input) files found)) is cause.first
 
+-- a run tells one line of a fault alone
 pub lines-same : ReadsOnce → (settings : Settings) (run : Run) (files : Told) (line other : List ℕ) → run.told ≡ Some files → BadModelRow settings run line → BadModelRow settings run other → line ≡ other
 lines-same once settings run files line other is p q =
     p.spelled ∙ ap (λ (f : ModelFault). fault_line (file_name settings f.file) f) same ∙ sym q.spelled
@@ -25,6 +26,7 @@ lines-same once settings run files line other is p q =
         err-same (outcomes-same once files settings (names_of settings.input) (Err p.found) (Err q.found)
         (first-of settings run.told files p.found is p.cause) (first-of settings run.told files q.found is q.cause))
 
+-- no run is both done and told a fault
 pub rows-exclude : ReadsOnce → (settings : Settings) (run : Run) (files : Told) (line other : List ℕ) → run.told ≡ Some files → DoneRow settings run line → BadModelRow settings run other → ⊥
 rows-exclude once settings run files line other is p q = on (subst (λ (o : Option Told). Analysed settings o (IsFinished run)) is p.finished)
   where

@@ -55,6 +55,7 @@ of-model settings model analysis p =
     of-quantities settings (expanded_of settings.ccf model) (has_quantities settings) analysis
     (reached (rank_fault (expanded_of settings.ccf model) (targets_of model)) (λ u. with_quantities settings (expanded_of settings.ccf model)) analysis ranked)
 
+-- an analysis of trees has its settings, the events that they ask for, and values where they do
 pub of-trees : (settings : Settings) (roots : List Element) (analysis : Analysis) → analysis_of settings roots ≡ Ok analysis → IsOf settings (expanded_of settings.ccf (model_of (draft_of roots))) (has_quantities settings) analysis
 of-trees settings roots analysis p =
     let named : analysis_of_draft settings (draft_of roots) ≡ Ok analysis = reached (shape_fault roots) (λ u. analysis_of_draft settings (draft_of roots)) analysis p in

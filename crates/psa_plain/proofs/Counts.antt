@@ -5,6 +5,7 @@ use Rattle.std.proofs.lemmas.List.{take_more, map-append}
 use Rattle.std.specs.List.{list_all, list_any}
 use Rattle.psa_model.specs.Formulas.{count_true, of_one}
 
+-- no more values are true than there are
 pub count-bound : (values : List Bool) → count_true values ≤ length values
 count-bound [] = omega arith
 count-bound (true ∷ rest) = let below : count_true rest ≤ length rest = count-bound rest in omega arith
@@ -57,6 +58,7 @@ not-counted (true ∷ []) h = refl
 not-counted (false ∷ []) h = refl
 not-counted (a ∷ b ∷ rest) h = absurd (two-differ (length rest) h)
 
+-- what the count of true arguments says of `and`, `or`, `nor`, `nand`, and `not` of one argument
 pub and-answer : (values : List Bool) (arguments count : ℕ) → length values ≡ arguments → count_true values ≡ count → eqb count arguments ≡ list_all (λ b. b) values
 and-answer values arguments count size counted = rw (← size, ← counted) (all-counted values)
 
@@ -80,6 +82,7 @@ count-push (true ∷ values) false = ap suc (count-push values false)
 count-push (false ∷ values) true = count-push values true
 count-push (false ∷ values) false = count-push values false
 
+-- the count of those that pass, one item on
 pub count-more : {A : Type 0} (f : A → Bool) (xs : List A) (i : ℕ) (x : A) → i < length xs → x ≡ get_or xs i x → count_true (map f (take (i + 1) xs)) ≡ cond (f x) (suc (count_true (map f (take i xs)))) (count_true (map f (take i xs)))
 count-more f xs i x inside is =
     let split : take (i + 1) xs ≡ take i xs ++ (x ∷ []) = take_more xs i x inside ∙ ap (λ y. take i xs ++ (y ∷ [])) (sym is) in

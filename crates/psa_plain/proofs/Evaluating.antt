@@ -29,9 +29,11 @@ use Rattle.psa_model.proofs.Levels.{and-left, and-right}
 use Rattle.psa_plain.proofs.Counts.{count-more}
 use Rattle.psa_plain.proofs.Lists.{all-at}
 
+-- a truth that is the answer for a formula, over what the memo knows then
 abbrev pub FormulaAnswered : Question → Formula → Memo → Bool → Type 0
 FormulaAnswered q f memo result = Answered q (is_enough q f) (truth_at q f) memo result
 
+-- a formula by its form: each form of formula has the answer that its arm gives
 pub answered-as : (q : Question) (f g : Formula) (memo : Memo) (result : Bool) → f ≡ g → FormulaAnswered q g memo result → FormulaAnswered q f memo result
 answered-as q f g memo result is answered = subst (λ h. FormulaAnswered q h memo result) (sym is) answered
 
@@ -102,9 +104,11 @@ pub record Counted (q : Question) (arguments : List Formula) (i : ℕ) (memo : M
   pub below : count ≤ i
   pub is : (n : ℕ) → list_all (λ g. is_enough q g n) arguments ≡ true → count ≡ count_true (map (λ g. truth_at q g n) (take i arguments))
 
+-- no formula was counted yet
 pub counted-start : (q : Question) (arguments : List Formula) (memo : Memo) → AllRight q memo → Counted q arguments 0 memo 0
 counted-start q arguments memo right = record { right = right; below = omega arith; is = λ n enough. refl }
 
+-- one more formula was counted
 pub counted-more : (q : Question) (arguments : List Formula) (i : ℕ) (argument : Formula) (memo next : Memo) (count : ℕ) (value : Bool) (counted : ℕ) → i < length arguments → argument ≡ get_or arguments i argument → Counted q arguments i memo count → FormulaAnswered q argument next value → counted ≡ cond value (suc count) count → Counted q arguments (i + 1) next counted
 counted-more q arguments i argument memo next count value counted inside is before one counted_is = record {
   right = one.right;
@@ -122,6 +126,7 @@ counted-more q arguments i argument memo next count value counted inside is befo
     at-most true e = let l : count ≤ i = before.below in omega arith
     at-most false e = let l : count ≤ i = before.below in omega arith
 
+-- all formulas were counted
 pub counted-end : (q : Question) (arguments : List Formula) (i : ℕ) (memo : Memo) (count : ℕ) → length arguments ≤ i → Counted q arguments i memo count → Answered q (λ n. list_all (λ g. is_enough q g n) arguments) (λ n. count_true (map (λ g. truth_at q g n) arguments)) memo count
 counted-end q arguments i memo count past counted = record {
   right = counted.right;
@@ -149,6 +154,7 @@ answered-implication q a b m1 m2 x y first second result value = record {
 pub state-found : (houses : List House) (place : ℕ) (house : House) → slice_get houses place ≡ Some house → house.state ≡ state_of (slice_get (map (λ h. h.state) houses) place)
 state-found houses place house found = sym (ap state_of (slice_get-map (λ h. h.state) houses place ∙ ap (option_map (λ h. h.state)) found))
 
+-- a house event that does not stand is false
 pub state-missing : (houses : List House) (place : ℕ) → slice_get houses place ≡ None → false ≡ state_of (slice_get (map (λ h. h.state) houses) place)
 state-missing houses place missing = sym (ap state_of (slice_get-map (λ h. h.state) houses place ∙ ap (option_map (λ h. h.state)) missing))
 
@@ -156,11 +162,13 @@ state-missing houses place missing = sym (ap state_of (slice_get-map (λ h. h.st
 pub indexed : (expanded : Expanded) (lists : List (List ℕ)) (event : ℕ) → IsIndex expanded lists → event < length expanded.model.basics → unwrap_or (slice_get lists event) [] ≡ events_of expanded event
 indexed expanded lists event index stands = ap (λ o. unwrap_or o []) (index event stands)
 
+-- a connective over arguments that are given as another list
 pub answered-items : (q : Question) (f : Formula) (operator : Connective) (min max : ℕ) (arguments items : List Formula) (memo : Memo) (result : Bool) → f ≡ variant.Connective operator min max arguments → items ≡ arguments → Answered q (λ n. list_all (λ g. is_enough q g n) items) (λ n. truth_of_connective operator min max (map (λ g. truth_at q g n) items)) memo result → FormulaAnswered q f memo result
 answered-items q f operator min max arguments items memo result is same answered =
     answered-connective q f operator min max arguments memo result is
     (subst (λ gs. Answered q (λ n. list_all (λ g. is_enough q g n) gs) (λ n. truth_of_connective operator min max (map (λ g. truth_at q g n) gs)) memo result) same answered)
 
+-- an implication, whose numbers decide nothing
 pub answered-imply : (q : Question) (operator : Connective) (min max : ℕ) (arguments : List Formula) (memo : Memo) (result : Bool) → operator ≡ Imply → Answered q (λ n. list_all (λ g. is_enough q g n) arguments) (λ n. truth_of_connective Imply 0 0 (map (λ g. truth_at q g n) arguments)) memo result → Answered q (λ n. list_all (λ g. is_enough q g n) arguments) (λ n. truth_of_connective operator min max (map (λ g. truth_at q g n) arguments)) memo result
 answered-imply q operator min max arguments memo result is answered =
     let here : Answered q (λ n. list_all (λ g. is_enough q g n) arguments) (λ n. truth_of_connective Imply min max (map (λ g. truth_at q g n) arguments)) memo result = answered in
@@ -177,6 +185,7 @@ of-two-items (x ∷ []) a b size first second = absurd (omega arith)
 of-two-items (x ∷ y ∷ []) a b size first second = cc
 of-two-items (x ∷ y ∷ z ∷ zs) a b size first second = absurd (omega arith)
 
+-- an implication over two formulas
 pub answered-two : (q : Question) (arguments : List Formula) (a b : Formula) (m1 m2 : Memo) (x y result : Bool) → length arguments ≡ 2 → a ≡ get_or arguments 0 a → b ≡ get_or arguments 1 b → FormulaAnswered q a m1 x → FormulaAnswered q b m2 y → result ≡ (not x || y) → Answered q (λ n. list_all (λ g. is_enough q g n) arguments) (λ n. truth_of_connective Imply 0 0 (map (λ g. truth_at q g n) arguments)) m2 result
 answered-two q arguments a b m1 m2 x y result size first second one other value =
     subst (λ gs. Answered q (λ n. list_all (λ g. is_enough q g n) gs) (λ n. truth_of_connective Imply 0 0 (map (λ g. truth_at q g n) gs)) m2 result) (sym (of-two-items arguments a b size first second))
@@ -188,16 +197,19 @@ not-two (a ∷ []) h = refl
 not-two (a ∷ b ∷ []) h = absurd (h refl)
 not-two (a ∷ b ∷ c ∷ rest) h = refl
 
+-- an implication over any other count of formulas
 pub answered-other : (q : Question) (arguments : List Formula) (memo : Memo) → (length arguments ≡ 2 → ⊥) → AllRight q memo → Answered q (λ n. list_all (λ g. is_enough q g n) arguments) (λ n. truth_of_connective Imply 0 0 (map (λ g. truth_at q g n) arguments)) memo false
 answered-other q arguments memo size right = record {
   right = right;
   is = λ n enough. sym (not-two (map (λ g. truth_at q g n) arguments) (λ two. size (sym (length-map arguments (λ g. truth_at q g n)) ∙ two)));
 }
 
+-- without its premise, an implication is true
 pub without-premise : (x y : Bool) → x ≡ false → not x ≡ (not x || y)
 without-premise true y h = absurd (cc)
 without-premise false y h = refl
 
+-- with its premise, an implication is its conclusion
 pub with-premise : (x y : Bool) → x ≡ true → y ≡ (not x || y)
 with-premise true y h = refl
 with-premise false y h = absurd (cc)

@@ -1,4 +1,4 @@
--- Lists by place.
+-- What stands in a list at a place and behind it, and the index of a model without groups.
 use Rattle.std.proofs.Common.{◌≡◌, ◌≤◌, ◌<◌, ◌+◌, ℕ, suc, zero, Bool, true, false, List, [], ◌∷◌, ◌++◌, Some, length, eqb, cond, map, drop, get_or, replicate, ◌||◌, refl, ap, sym, ◌∙◌, subst, suc-add, add-one, arith}
 use Rattle.std.proofs.lemmas.Bool.Decides.{nat_tests}
 use Rattle.std.proofs.lemmas.List.{drop_more, drop_all, append_assoc, length-append}
@@ -22,20 +22,24 @@ at-place [] i l = absurd (omega arith)
 at-place (x ∷ xs) zero l = (x, refl)
 at-place (x ∷ xs) (suc i) l = at-place xs i (omega arith)
 
+-- behind the items before a place is the item at it, and the rest
 pub drop-at : {A : Type 0} (xs : List A) (i : ℕ) (x : A) → slice_get xs i ≡ Some x → drop i xs ≡ x ∷ drop (i + 1) xs
 drop-at [] i x h = absurd (cc)
 drop-at (y ∷ ys) zero x h = let same : y ≡ x = cc in ap (λ z. z ∷ ys) same
 drop-at (y ∷ ys) (suc i) x h = rw (suc-add i 1) (drop-at ys i x h)
 
+-- what holds of all items holds of the one at a place
 pub all-at : {A : Type 0} (p : A → Bool) (xs : List A) (i : ℕ) (x : A) → list_all p xs ≡ true → i < length xs → x ≡ get_or xs i x → p x ≡ true
 all-at p [] i x h l is = absurd (omega arith)
 all-at p (y ∷ ys) zero x h l is = subst (λ z. p z ≡ true) (sym is) (and-left _ _ h)
 all-at p (y ∷ ys) (suc i) x h l is = all-at p ys i x (and-right _ _ h) (omega arith) is
 
+-- some image passes where some item does
 pub list_any-map : {A B : Type 0} (p : B → Bool) (f : A → B) (xs : List A) → list_any p (map f xs) ≡ list_any (λ x. p (f x)) xs
 list_any-map p f [] = refl
 list_any-map p f (x ∷ xs) = ap (λ b. p (f x) || b) (list_any-map p f xs)
 
+-- in a list of false alone, each place is false
 pub blank-false : (n place : ℕ) → get_or (replicate n false) place false ≡ false
 blank-false zero place = refl
 blank-false (suc n) zero = refl
@@ -58,9 +62,11 @@ pub by-rank-step : (s : ℕ → Bool) (ranks : List EventNumber) (rank event : �
 by-rank-step s ranks rank event one inside is =
     rw (drop_more ranks rank one inside ∙ ap (λ y. y ∷ drop (rank + 1) ranks) (sym is), add-one) refl
 
+-- behind the last rank, no event occurs
 pub by-rank-end : (s : ℕ → Bool) (ranks : List EventNumber) (rank event : ℕ) → length ranks ≤ rank → occurs_by_rank s rank (drop rank ranks) event ≡ false
 by-rank-end s ranks rank event l = rw (drop_all rank ranks l) refl
 
+-- a number is in the rest of a set as the next one, or further behind
 pub occurs-step : (set : List ℕ) (i x one : ℕ) → i < length set → one ≡ get_or set i one → occurs (drop i set) x ≡ (eqb one x || occurs (drop (i + 1) set) x)
 occurs-step set i x one inside is =
     rw (drop_more set i one inside ∙ ap (λ y. y ∷ drop (i + 1) set) (sym is)) refl
@@ -70,6 +76,7 @@ abbrev pub singles : ℕ → List (List ℕ)
 singles zero = []
 singles (suc n) = singles n ++ ((n ∷ []) ∷ [])
 
+-- the numbers below n + 1 are those below n, and n
 pub singles-more : (n : ℕ) → singles (n + 1) ≡ singles n ++ ((n ∷ []) ∷ [])
 singles-more n = rw add-one refl
 

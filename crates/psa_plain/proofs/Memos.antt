@@ -13,6 +13,7 @@ own round value truth h = let same : cond (eqb round round) (Some value) None �
     chosen true e = cc
     chosen false e = absurd (cc)
 
+-- after a write, a known truth was known before, or is the written one
 pub written : (entries : List Entry) (round place : ℕ) (value : Bool) (other : ℕ) (truth : Bool) → of_round round (slice_get (slice_set entries place (record { round = round; value = value })) other) ≡ Some truth → (of_round round (slice_get entries other) ≡ Some truth) ⊎ ((other ≡ place) × (truth ≡ value))
 written [] round place value other truth h = inl h
 written (e ∷ es) round zero value zero truth h = inr (refl, own round value truth h)
@@ -31,6 +32,7 @@ itself round value = chosen (eqb round round) (eq-eqb round round refl)
     chosen true e = refl
     chosen false e = absurd (cc)
 
+-- after a write, the truth at the place is known
 pub known : (entries : List Entry) (round place : ℕ) (value : Bool) → place < length entries → of_round round (slice_get (slice_set entries place (record { round = round; value = value })) place) ≡ Some value
 known [] round place value within = absurd (omega (arith, within))
 known (e ∷ es) round zero value within = itself round value
@@ -46,11 +48,13 @@ older entry round h = later (eqb entry.round (round + 1)) (different entry.round
     later true e = absurd (cc)
     later false e = refl
 
+-- in a new round, nothing is known
 pub forgotten : (entries : List Entry) (round gate : ℕ) → list_all (λ entry. nat_le entry.round round) entries ≡ true → of_round (round + 1) (slice_get entries gate) ≡ None
 forgotten [] round gate h = refl
 forgotten (e ∷ es) round zero h = older e round (and-left _ _ h)
 forgotten (e ∷ es) round (suc gate) h = forgotten es round gate (and-right _ _ h)
 
+-- no entry is of a later round than the memo: after a write, in a later round, after one more entry
 pub past-set : (entries : List Entry) (round place : ℕ) (value : Bool) → list_all (λ entry. nat_le entry.round round) entries ≡ true → list_all (λ entry. nat_le entry.round round) (slice_set entries place (record { round = round; value = value })) ≡ true
 past-set [] round place value h = refl
 past-set (e ∷ es) round zero value h = and-both _ _ (same round) (and-right _ _ h)

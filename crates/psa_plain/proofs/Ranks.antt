@@ -1,4 +1,4 @@
--- Ranks by first places.
+-- A walk over formulas gives the ranks of a target: its events by the first places of their visits.
 use Rattle.std.proofs.Common.{◌≡◌, ◌≤◌, ◌<◌, ◌+◌, ◌-◌, ℕ, suc, Bool, true, false, List, [], ◌∷◌, ◌++◌, Some, None, length, map, take, get_or, eqb, cond, not, ◌||◌, ◌&&◌, nat_eq, Result, Ok, Err, OnOk, refl, ap, sym, ◌∙◌, subst, arith}
 use Rattle.std.proofs.lemmas.Bool.Decides.{nat_tests}
 use Rattle.std.proofs.lemmas.List.{append-nil, append_assoc, take_all, take_more}
@@ -33,6 +33,7 @@ use Rattle.psa_plain.proofs.Lists.{at-place}
 abbrev pub with_one : List ℕ → ℕ → List ℕ
 with_one before x = cond (is_in before x) before (before ++ (x ∷ []))
 
+-- ranks of two lists one after the other are those of the second from those of the first on
 pub ranked-append : (before xs ys : List ℕ) → ranked before (xs ++ ys) ≡ ranked (ranked before xs) ys
 ranked-append before [] ys = refl
 ranked-append before (x ∷ xs) ys = ranked-append (with_one before x) xs ys
@@ -60,6 +61,7 @@ stays : (before more : List ℕ) (y : ℕ) → is_in before y ≡ true → is_in
 stays before [] y h = h
 stays before (x ∷ xs) y h = stays (with_one before x) xs y (stays-one (is_in before x) before x y h)
 
+-- numbers that have a rank keep it while others are ranked
 pub all-stay : (before more ys : List ℕ) → list_all (λ y. is_in before y) ys ≡ true → list_all (λ y. is_in (ranked before more) y) ys ≡ true
 all-stay before more [] h = refl
 all-stay before more (y ∷ ys) h = and-both _ _ (stays before more y (and-left _ _ h)) (all-stay before more ys (and-right _ _ h))
@@ -150,9 +152,11 @@ all-new : (xs : List ℕ) → filter (λ y. true) xs ≡ xs
 all-new [] = refl
 all-new (x ∷ xs) = ap (λ ys. x ∷ ys) (all-new xs)
 
+-- from no rank on, the ranks are the first places
 pub ranked-from-none : (xs : List ℕ) → ranked [] xs ≡ firsts xs
 ranked-from-none xs = ranked-firsts [] xs ∙ all-new (firsts xs)
 
+-- whether so many levels are enough for the formula
 abbrev pub enough : Expanded → Formula → ℕ → Bool
 enough expanded f n = within n expanded.model f
 
@@ -166,15 +170,18 @@ sound-more expanded events before after sound more = record {
       (all-stay (numbers before) events (visits n expanded (variant.Gate (record { 0 = gate }))) (sound.entered gate was n deep));
 }
 
+-- events that all have a rank change none
 pub ranked-none : (expanded : Expanded) (test : ℕ → Bool) (events : ℕ → List ℕ) (ranking : Ranking) → IsSound expanded ranking → ((n : ℕ) → test n ≡ true → list_all (λ event. is_in (numbers ranking) event) (events n) ≡ true) → Ranked expanded test events ranking ranking
 ranked-none expanded test events ranking sound known = record {
   sound = sound;
   ranks = λ n deep. sym (ranked-known (numbers ranking) (events n) (known n deep));
 }
 
+-- the ranks after a formula, from the ranks before it
 abbrev pub FormulaRanked : Expanded → Formula → Ranking → Ranking → Type 0
 FormulaRanked expanded f before after = Ranked expanded (λ n. within n expanded.model f) (λ n. visits n expanded f) before after
 
+-- a formula by its form: each form of formula has the ranks that its arm gives
 pub ranked-as : (expanded : Expanded) (f g : Formula) (before after : Ranking) → f ≡ g → FormulaRanked expanded g before after → FormulaRanked expanded f before after
 ranked-as expanded f g before after is done = subst (λ h. FormulaRanked expanded h before after) (sym is) done
 
@@ -197,9 +204,11 @@ ranked-constant expanded f b ranking is sound = ranked-as expanded f (variant.Co
   ranks = λ n deep. ap (ranked (numbers ranking)) (sym (visits-constant n expanded b (some-level n expanded.model _ deep)));
 })
 
+-- the ranks after formulas one after another, from the ranks before them
 abbrev pub AllRanked : Expanded → List Formula → Ranking → Ranking → Type 0
 AllRanked expanded formulas before after = Ranked expanded (λ n. list_all (λ g. within n expanded.model g) formulas) (λ n. flat_map (λ g. visits n expanded g) formulas) before after
 
+-- a connective has the ranks of its arguments one after another
 pub ranked-connective : (expanded : Expanded) (f : Formula) (operator : Connective) (min max : ℕ) (arguments : List Formula) (before after : Ranking) → f ≡ variant.Connective operator min max arguments → AllRanked expanded arguments before after → FormulaRanked expanded f before after
 ranked-connective expanded f operator min max arguments before after is all = ranked-as expanded f (variant.Connective operator min max arguments) before after is (record {
   sound = all.sound;
@@ -220,6 +229,7 @@ all-split : {A : Type 0} (p : A → Bool) (xs ys : List A) → list_all p (xs ++
 all-split p [] ys h = (refl, h)
 all-split p (x ∷ xs) ys h = let rest = all-split p xs ys (and-right (p x) (list_all p (xs ++ ys)) h) in (and-both (p x) (list_all p xs) (and-left (p x) (list_all p (xs ++ ys)) h) rest.0, rest.1)
 
+-- formulas one after another: one more, the one at a place, and all
 pub ranked-push : (expanded : Expanded) (some : List Formula) (f : Formula) (before now next : Ranking) → AllRanked expanded some before now → FormulaRanked expanded f now next → AllRanked expanded (some ++ (f ∷ [])) before next
 ranked-push expanded some f before now next all one = record {
   sound = one.sound;
@@ -290,6 +300,7 @@ more-push events x before now next all one = record {
   entered = one.entered ∙ all.entered;
 }
 
+-- the event at the next place is ranked
 pub events-more : (events : List ℕ) (i x : ℕ) (before now next : Ranking) → i < length events → x ≡ get_or events i x → RanksMore (take i events) before now → RanksMore (x ∷ []) now next → RanksMore (take (i + 1) events) before next
 events-more events i x before now next inside is all one =
     let split : take (i + 1) events ≡ take i events ++ (x ∷ []) = take_more events i x inside ∙ ap (λ y. take i events ++ (y ∷ [])) (sym is) in
@@ -306,6 +317,7 @@ gate-deep model gate resolved stands =
     let found = at-place model.gates gate.0 stands in
     within-of-gate MAX_DEPTH model gate found.0 found.1 ∙ resolved.gates gate.0 found.0 found.1
 
+-- the gate of a target that is taken stands
 pub top-stands : (expanded : Expanded) (target : Target) (gate : GateId) → target ≡ TopEvent gate → IsTop expanded target → gate.0 < length expanded.model.gates
 top-stands expanded target gate is top = subst (λ (t : Target). IsTop expanded t) is top
 
@@ -314,6 +326,7 @@ events-of_numbers : (events : List EventNumber) → events ≡ map (λ number. r
 events-of_numbers [] = refl
 events-of_numbers (event ∷ events) = ap (λ more. event ∷ more) (events-of_numbers events)
 
+-- what a walk over the gate of a target ranks from nothing are the ranks of the target
 pub ranks-answer : (expanded : Expanded) (target : Target) (gate : GateId) (before after : Ranking) → target ≡ TopEvent gate → numbers before ≡ [] → within (suc MAX_DEPTH) expanded.model (variant.Gate gate) ≡ true → FormulaRanked expanded (variant.Gate gate) before after → after.ranks ≡ ranks_of expanded target
 ranks-answer expanded target gate before after is none deep done =
     subst (λ t. after.ranks ≡ ranks_of expanded t) (sym is)

@@ -52,6 +52,7 @@ marked-none gates tree formula marks none = record {
   marks = λ place gate found. sym (ap (λ b. get_or marks place false || (eqb tree gate.tree.0 && b)) (none place) ∙ or-false (get_or marks place false) (eqb tree gate.tree.0));
 }
 
+-- a leaf marks no gate
 pub marked-basic : (gates : List Gate) (tree : ℕ) (formula : Formula) (id : EventId) (marks : List Bool) → formula ≡ variant.Basic id → Marked gates tree formula marks marks
 marked-basic gates tree formula id marks is = marked-none gates tree formula marks (λ place. ap (refers place) is ∙ refers-basic place id)
 
@@ -61,15 +62,18 @@ marked-house gates tree formula id marks is = marked-none gates tree formula mar
 pub marked-constant : (gates : List Gate) (tree : ℕ) (formula : Formula) (b : Bool) (marks : List Bool) → formula ≡ variant.Constant b → Marked gates tree formula marks marks
 marked-constant gates tree formula b marks is = marked-none gates tree formula marks (λ place. ap (refers place) is ∙ refers-constant place b)
 
+-- a formula marks by its form
 pub marked-as : (gates : List Gate) (tree : ℕ) (formula other : Formula) (before after : List Bool) → formula ≡ other → Marked gates tree other before after → Marked gates tree formula before after
 marked-as gates tree formula other before after is marked = subst (λ f. Marked gates tree f before after) (sym is) marked
 
+-- a connective marks what its arguments do
 pub marked-connective : (gates : List Gate) (tree : ℕ) (formula : Formula) (operator : Connective) (min max : ℕ) (arguments : List Formula) (before after : List Bool) → formula ≡ variant.Connective operator min max arguments → MarkedSome gates tree arguments before after → Marked gates tree formula before after
 marked-connective gates tree formula operator min max arguments before after is marked = record {
   size = marked.size;
   marks = λ place gate found. marked.marks place gate found ∙ ap (λ b. get_or before place false || (eqb tree gate.tree.0 && b)) (sym (ap (refers place) is ∙ refers-connective place operator min max arguments));
 }
 
+-- no argument was taken yet
 pub marked-start : (gates : List Gate) (tree : ℕ) (marks : List Bool) → MarkedSome gates tree [] marks marks
 marked-start gates tree marks = record {
   size = refl;
@@ -81,6 +85,7 @@ merge true t x y = refl
 merge false true x y = refl
 merge false false x y = refl
 
+-- one more argument was taken
 pub marked-more : (gates : List Gate) (tree : ℕ) (items : List Formula) (i : ℕ) (item : Formula) (before now next : List Bool) → i < length items → item ≡ get_or items i item → MarkedSome gates tree (take i items) before now → Marked gates tree item now next → MarkedSome gates tree (take (i + 1) items) before next
 marked-more gates tree items i item before now next inside is some one = record {
   size = one.size ∙ some.size;
@@ -122,6 +127,7 @@ mark-cases marks tree other place gate named inside same false h =
     differ : (a b : ℕ) → eqb a b ≡ false → a ≡ b → ⊥
     differ a b h e = grind (arith, nat_tests)
 
+-- a gate that stands is marked where it is of the same fault tree
 pub marked-gate : (gates : List Gate) (tree : ℕ) (id : GateId) (named : Gate) (marks : List Bool) → length marks ≡ length gates → id.0 < length gates → slice_get gates id.0 ≡ Some named → Marked gates tree (variant.Gate id) marks (set marks id.0 (get_or marks id.0 false || eqb named.tree.0 tree))
 marked-gate gates tree id named marks size inside found_named = record {
   size = length-set marks id.0 (get_or marks id.0 false || eqb named.tree.0 tree);
@@ -130,6 +136,7 @@ marked-gate gates tree id named marks size inside found_named = record {
       ∙ ap (λ b. get_or marks place false || (eqb tree gate.tree.0 && b)) (sym (refers-gate place id));
 }
 
+-- a gate that does not stand marks none
 pub marked-missing : (gates : List Gate) (tree : ℕ) (id : GateId) (marks : List Bool) → slice_get gates id.0 ≡ None → Marked gates tree (variant.Gate id) marks marks
 marked-missing gates tree id marks missing = record {
   size = refl;
@@ -144,6 +151,7 @@ marked-missing gates tree id marks missing = record {
         let at : slice_get gates place ≡ None = subst (λ p. slice_get gates p ≡ None) here missing in absurd (cc)
     away false place gate found h = refl
 
+-- all arguments were taken
 pub marked-end : (gates : List Gate) (tree : ℕ) (items arguments : List Formula) (i : ℕ) (before after : List Bool) → items ≡ arguments → length items ≤ i → MarkedSome gates tree (take i items) before after → MarkedSome gates tree arguments before after
 marked-end gates tree items arguments i before after same past some = subst (λ fs. MarkedSome gates tree fs before after) (take_all i items past ∙ same) some
 
@@ -154,6 +162,7 @@ all-start gates n same = record {
   are = λ place gate found. blank-false n place;
 }
 
+-- gates one after another: the formula of one more was taken
 pub all-more : (gates some : List Gate) (i : ℕ) (one : Gate) (marks next : List Bool) → i < length some → one ≡ get_or some i one → AllMarked gates (take i some) marks → Marked gates one.tree.0 one.formula marks next → AllMarked gates (take (i + 1) some) next
 all-more gates some i one marks next inside is all marked = record {
   size = marked.size ∙ all.size;
@@ -164,6 +173,7 @@ all-more gates some i one marks next inside is all marked = record {
       ∙ sym (list_any_more test some i one inside ∙ ap (λ g. list_any test (take i some) || test g) (sym is));
 }
 
+-- the formulas of all gates were taken
 pub all-end : (gates : List Gate) (n : ℕ) (marks : List Bool) → length gates ≤ n → AllMarked gates (take n gates) marks → AllMarked gates gates marks
 all-end gates n marks past all = subst (λ some. AllMarked gates some marks) (take_all n gates past) all
 
@@ -177,6 +187,7 @@ tops-map : (b : Bool) (place : ℕ) (rest : List ℕ) → map (λ p. TopEvent (r
 tops-map true place rest = refl
 tops-map false place rest = refl
 
+-- a gate is listed where nothing marked it, and the list goes on behind it
 pub tops-step : (model : Model) (place : ℕ) (marks : List Bool) (mark : Bool) (targets listed : List Target) → place < length model.gates → AllMarked model.gates model.gates marks → mark ≡ get_or marks place false → listed ≡ cond mark targets (targets ++ (TopEvent (record { 0 = place }) ∷ [])) → listed ++ map (λ p. TopEvent (record { 0 = p })) (places_from (is_top_event model) (place + 1) (drop (place + 1) model.gates)) ≡ targets ++ map (λ p. TopEvent (record { 0 = p })) (places_from (is_top_event model) place (drop place model.gates))
 tops-step model place marks mark targets listed inside all mark_is listed_is =
     let found = at-place model.gates place inside in
@@ -199,6 +210,7 @@ marked-named gates tree id named marks size inside found same =
     either true = refl
     either false = refl
 
+-- a gate of another fault tree marks none
 pub marked-elsewhere : (gates : List Gate) (tree : ℕ) (id : GateId) (named : Gate) (marks : List Bool) → length marks ≡ length gates → id.0 < length gates → slice_get gates id.0 ≡ Some named → (named.tree.0 ≡ tree → ⊥) → Marked gates tree (variant.Gate id) marks marks
 marked-elsewhere gates tree id named marks size inside found differs =
     subst (λ ms. Marked gates tree (variant.Gate id) marks ms) (ap (λ b. set marks id.0 (get_or marks id.0 false || b)) (no named.tree.0 tree differs) ∙ ap (set marks id.0) (same (get_or marks id.0 false)) ∙ set-get_or marks id.0 false) (marked-gate gates tree id named marks size inside found)
