@@ -29,7 +29,7 @@ use Rattle.psa_model.proofs.Levels.{within-more as formula-more}
 and-both : (a b : Bool) → a ≡ true → b ≡ true → (a && b) ≡ true
 and-both a b p q = rw (p, q) refl
 
-all-more : {A : Type 0} (below above : A → Bool) → ((a : A) → below a ≡ true → above a ≡ true) → (items : List A) → list_all below items ≡ true → list_all above items ≡ true
+pub all-more : {A : Type 0} (below above : A → Bool) → ((a : A) → below a ≡ true → above a ≡ true) → (items : List A) → list_all below items ≡ true → list_all above items ≡ true
 all-more below above more [] h = refl
 all-more below above more (a ∷ items) h =
     let parts = and_parts (below a) (list_all below items) h in and-both _ _ (more a parts.0) (all-more below above more items parts.1)

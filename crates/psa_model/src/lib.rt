@@ -19,6 +19,7 @@ pub mod part_laws;
 pub mod path_laws;
 mod product;
 mod settings;
+pub mod standing_laws;
 mod targets;
 pub mod value_laws;
 mod walks;

@@ -1,9 +1,10 @@
 //! What can be said of values in general. The functions do nothing: their contracts are the laws.
-ghost use Rattle.std.specs.Prelude.{◌≡◌, ◌≤◌, ℕ, suc, true, List, Ok};
+ghost use Rattle.std.specs.Prelude.{◌≡◌, ◌≤◌, ℕ, suc, true, All, length, List, Ok};
 ghost use Rattle.std.specs.List.{AllZip};
 ghost use Rattle.psa_number.specs.Ends.{Ends};
 ghost use Rattle.psa_number.specs.Exponential.{last_term};
 ghost use Rattle.psa_number.specs.Fraction.{Holds};
+ghost use Rattle.psa_number.specs.Operations.{IsInUnit};
 ghost use Rattle.psa_number.specs.Scaled.{Scaled};
 ghost use Rattle.psa_model.specs.declared.expanded.Expanded.{Expanded};
 ghost use Rattle.psa_model.specs.declared.expression.Expression.{Expression};
@@ -33,4 +34,11 @@ pub fn intervals_hold_exact_values()
         → (mission : Scaled) (expanded : Expanded) (values : List Ends)
         → values_of mission expanded ≡ Ok values
         → AllZip Holds values (quantities_of terms mission expanded) }
+{}
+
+/// Where all events have an interval, there is one for each, and it lies within 0 and 1.
+pub fn values_lie_in_unit()
+    ensures { (mission : Scaled) (expanded : Expanded) (values : List Ends)
+        → values_of mission expanded ≡ Ok values
+        → (length values ≡ length expanded.events) × All IsInUnit values }
 {}
