@@ -17,37 +17,33 @@ ghost use Rattle.psa_outcome.specs.RunOutcome.{BadModelRow, DoneRow};
 ghost use Rattle.psa_outcome.specs.Runs.{Run, all_targets};
 ghost use Rattle.psa_model.specs.Quantities.{has_quantities};
 ghost use Rattle.psa_model.specs.Report.{Analysis, IsReport};
-ghost use Rattle.psa_text.specs.TextOutcome.{EachReads, ReadsOnce};
 
-/// An input has at most one first fault or one analysis, and never both, as far as a text comes to no
-/// two things. It has one where its files are told, as far as each text comes to one.
+/// An input has at most one first fault or one analysis, and never both. It has one where its files are
+/// told.
 pub fn inputs_have_one_outcome()
-    ensures once { ReadsOnce → (settings : Settings) (names : List (List ℕ)) (told : Told)
+    ensures once { (settings : Settings) (names : List (List ℕ)) (told : Told)
         → (one other : Result Analysis ModelFault)
         → IsOutcome settings names told one → IsOutcome settings names told other → one ≡ other }
-    ensures some { EachReads → (settings : Settings) (names : List (List ℕ)) (told : Told)
+    ensures some { (settings : Settings) (names : List (List ℕ)) (told : Told)
         → AllAreTold told names
         → (outcome : Result Analysis ModelFault) × IsOutcome settings names told outcome }
 {}
 
-/// An input without a fault has one report, as far as a text comes to no two things.
+/// An input without a fault has one report.
 pub fn inputs_have_one_report()
-    ensures { ReadsOnce → (settings : Settings) (names : List (List ℕ)) (told : Told)
+    ensures { (settings : Settings) (names : List (List ℕ)) (told : Told)
         → (one other : Analysis) (text more : List ℕ)
         → IsAnalysis settings names told one → IsAnalysis settings names told other
         → IsReport one (all_targets one) text → IsReport other (all_targets other) more
         → text ≡ more }
 {}
 
-/// Where its files are told, a run whose model has a fault tells one line and is never done, as far as
-/// a text comes to no two things.
+/// Where its files are told, a run whose model has a fault tells one line and is never done.
 pub fn fault_lines_are_determined()
-    ensures line { ReadsOnce
-        → (settings : Settings) (run : Run) (files : Told) (line other : List ℕ)
+    ensures line { (settings : Settings) (run : Run) (files : Told) (line other : List ℕ)
         → run.told ≡ Some files → BadModelRow settings run line → BadModelRow settings run other
         → line ≡ other }
-    ensures apart { ReadsOnce
-        → (settings : Settings) (run : Run) (files : Told) (line other : List ℕ)
+    ensures apart { (settings : Settings) (run : Run) (files : Told) (line other : List ℕ)
         → run.told ≡ Some files → DoneRow settings run line → BadModelRow settings run other → ⊥ }
 {}
 
