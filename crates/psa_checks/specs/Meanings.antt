@@ -1,5 +1,5 @@
 -- What a name stands for. (The rule of the search is this project's own.)
-use Rattle.std.specs.Prelude.{ℕ, Bool, List, [], ◌∷◌, ◌++◌, Option, Some, None, map, is_some, filter, position, take, length, ◌-◌, ◌&&◌, ◌||◌, not, if◌then◌else◌}
+use Rattle.std.specs.Prelude.{ℕ, Bool, List, [], ◌∷◌, ◌++◌, Option, Some, None, map, is_some, filter, position, take, length, ◌-◌, ◌&&◌, not, if◌then◌else◌}
 use Rattle.std.specs.List.{list_any, last_or}
 use Rattle.std.specs.Option.{option_map, option_or, unwrap_or}
 use Rattle.std.specs.Str.{bytes_eq}
@@ -9,7 +9,7 @@ use Rattle.psa_model.specs.declared.draft.DraftBody.{DraftBody}
 use Rattle.psa_model.specs.declared.draft.DraftBody.TheVariants as body
 use Rattle.psa_model.specs.declared.draft.DraftReference.{DraftReference}
 use Rattle.psa_checks.specs.Outlines.{ReferenceKind, event, parameter, event_tree, rule, sequence, branch, functional_event, initiating_event, functional_event_anywhere, Reference, Entry, Entries}
-use Rattle.psa_checks.specs.NameSpaces.{Family, events, parameters, groups, event_trees, initiating_events, functional_events, sequences, branches, rules, family_of, is_in_family, is_scoped}
+use Rattle.psa_checks.specs.NameSpaces.{Family, events, parameters, event_trees, initiating_events, functional_events, sequences, branches, rules, family_of, is_in_family, is_inner}
 
 -- ---- the search among definitions
 
@@ -86,10 +86,10 @@ meaning_of_event entries container name =
 
 -- ---- references
 
--- The container in which the search for a definition's references begins. In an event tree there is none: a fault tree
--- of the same name is not meant.
+-- The container in which the search for a definition's references begins. What stands in an event tree has none: a
+-- fault tree of the same name is not meant. Components are inner too, and hold no references.
 abbrev pub scope_of : Entry → List Text
-scope_of one = if is_scoped (family_of one.kind) || is_in_family groups one then one.container else []
+scope_of one = if is_inner (family_of one.kind) then [] else one.container
 
 -- the event tree that a definition is, or stands in
 abbrev pub tree_of : Entry → List Text

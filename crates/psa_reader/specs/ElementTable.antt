@@ -10,11 +10,12 @@ use Rattle.psa_number.specs.DecimalText.{decimal_of}
 use Rattle.psa_model.specs.PathNames.{Text, name_parts}
 use Rattle.psa_model.specs.declared.fault.FaultKind.{FaultKind}
 use Rattle.psa_model.specs.declared.fault.FaultKind.TheVariants.{BadAttribute, BadNumber, BadName}
+use Rattle.psa_model.specs.declared.formula.TheConstants.{MAX_COUNTED_ARGUMENTS}
 use Rattle.psa_model.specs.declared.formula.Connective.{Connective}
 use Rattle.psa_model.specs.declared.formula.Connective.TheVariants.{And, Or, Not, Xor, Iff, Nand, Nor, Imply, Atleast, Cardinality}
 use Rattle.psa_model.specs.declared.expression.ExpressionOperator.{ExpressionOperator}
 use Rattle.psa_model.specs.declared.expression.ExpressionOperator.TheVariants as operation
-use Rattle.psa_reader.specs.declared.limits.TheConstants.{MAX_NAME, MAX_DIGITS, MAX_ARGUMENTS}
+use Rattle.psa_reader.specs.declared.limits.TheConstants.{MAX_NAME, MAX_DIGITS}
 
 -- ---- the rows
 
@@ -288,9 +289,9 @@ connective_rule Not = unlabelled [] (only (exactly 1 formulas))
 connective_rule Xor = unlabelled [] (only (exactly 2 formulas))
 connective_rule Iff = unlabelled [] (only (exactly 2 formulas))
 connective_rule Imply = unlabelled [] (only (exactly 2 formulas))
-connective_rule Atleast = unlabelled (bound_rule (codes "min") ∷ []) (only (from_to 1 MAX_ARGUMENTS formulas))
+connective_rule Atleast = unlabelled (bound_rule (codes "min") ∷ []) (only (from_to 1 MAX_COUNTED_ARGUMENTS formulas))
 connective_rule Cardinality =
-    unlabelled (bound_rule (codes "min") ∷ bound_rule (codes "max") ∷ []) (only (from_to 1 MAX_ARGUMENTS formulas))
+    unlabelled (bound_rule (codes "min") ∷ bound_rule (codes "max") ∷ []) (only (from_to 1 MAX_COUNTED_ARGUMENTS formulas))
 
 abbrev pub operator_rule : ExpressionOperator → Rule
 operator_rule operation.Neg = unlabelled [] (only (exactly 1 expressions))

@@ -12,4 +12,4 @@ pub use examples::{
     names_have_no_dot, one_gate_has_three_definitions, roles_are_by_place, stray_if_is_unknown,
 };
 pub use laws::tags_are_apart;
-pub use limits::{MAX_ARGUMENTS, MAX_DIGITS, MAX_NAME};
+pub use limits::{MAX_DIGITS, MAX_NAME};

@@ -3,6 +3,3 @@ pub const MAX_NAME: usize = 128;
 
 /// The greatest number of digits of `min`, `max` and `level`.
 pub const MAX_DIGITS: usize = 4;
-
-/// The greatest number of arguments of `atleast` and `cardinality`.
-pub const MAX_ARGUMENTS: usize = 1_024;
