@@ -1,0 +1,10 @@
+pub mod Forms
+pub mod Lists
+pub mod Evaluating
+pub mod Folds
+pub mod Known
+pub mod Settling
+pub mod Quantities
+pub mod Valuing
+pub mod Callers
+pub mod Counting

@@ -1,0 +1,4 @@
+use Rattle.psa_expr.proofs.counts.+size_of.Given as goal
+
+abbrev pub decreases-size_of : goal.decreases-size_of
+decreases-size_of l = l.count
