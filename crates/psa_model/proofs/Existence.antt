@@ -1,13 +1,13 @@
 -- A kind of product that is decided, whose products are ascending lists of numbers below a bound, has a listing:
 -- the parts of the list of all numbers below the bound that are of the kind, put in report order.
-use Rattle.std.proofs.Common.{◌≡◌, ◌⊎◌, ℕ, zero, suc, ◌+◌, ◌<◌, ◌≤◌, Bool, true, false, List, [], ◌∷◌, ◌++◌, map, refl, sym, ap, subst, ◌∙◌, inl, inr, arith}
+use Rattle.std.proofs.Common.{◌≡◌, ◌⊎◌, ℕ, zero, suc, ◌+◌, ◌<◌, ◌≤◌, true, List, [], ◌∷◌, ◌++◌, map, refl, sym, subst, inl, inr, arith}
 use Rattle.std.proofs.lemmas.Bool.{false≢true, and_parts, and_from, lt-ltb}
 use Rattle.std.proofs.lemmas.Bool.Decides.{eqb_tells}
 use Rattle.psa_logic.specs.Sets.{Has, is_part, is_ascending, all_above}
 use Rattle.psa_logic.specs.Products.{is_before, is_before_all, is_in_order, IsListing}
 use Rattle.psa_logic.proofs.ListingLemmas.{before_all-from, before_all-each, has-map, has-append_left, has-append_right}
 use Rattle.psa_logic.proofs.ReportOrderLemmas.{before-total, before-trans}
-use Rattle.psa_logic.proofs.PartLemmas.{part-nil, part-from_has, all_above-lower}
+use Rattle.psa_logic.proofs.PartLemmas.{part-nil, part-from_has}
 
 -- one more product at its place in report order
 record Inserted (one : List ℕ) (products : List (List ℕ)) : Type 0 where

@@ -13,7 +13,7 @@ use Rattle.psa_model.specs.declared.model.Factor.{Factor}
 use Rattle.psa_model.specs.declared.model.Model.{Model}
 use Rattle.psa_model.specs.Truth.{IsResolved}
 use Rattle.psa_model.specs.Values.{value_within}
-use Rattle.psa_model.specs.Models.{IsModel, IsGroup, IsValue, expression_nesting_step, is_without_value}
+use Rattle.psa_model.specs.Models.{IsModel, IsOfSize, IsGroup, IsValue, expression_nesting_step, is_without_value}
 use Rattle.psa_model.specs.GroupExample.{group_model, three_members}
 use Rattle.psa_model.proofs.ExpressionForms.{out-number}
 
@@ -70,5 +70,8 @@ group-is-model = record {
   sequences = All-nil _;
   branches = All-nil _;
   initiatings = All-nil _;
-  few = omega arith;
 }
+
+-- three members that their group defines, and the group
+pub group-is-of-size : IsOfSize group_model
+group-is-of-size = omega arith

@@ -1,8 +1,7 @@
 -- The prime implicants of a truth that looks at no rank from a width on: they hold ranks below the width alone, and
 -- whether a product is one of them is decided.
-use Rattle.std.proofs.Common.{◌≡◌, ◌⊎◌, ℕ, zero, suc, ◌+◌, ◌*◌, ◌/◌, ◌<◌, ◌≤◌, max, Bool, true, false, cond, not, nat_lt, nat_le, ◌==◌, ◌&&◌, ◌||◌, List, [], ◌∷◌, length, map, refl, sym, ap, subst, ◌∙◌, inl, inr, arith, if◌then◌else◌}
+use Rattle.std.proofs.Common.{◌≡◌, ◌⊎◌, ℕ, suc, ◌*◌, ◌<◌, ◌≤◌, max, Bool, true, false, cond, not, nat_lt, nat_le, ◌==◌, ◌&&◌, List, [], ◌∷◌, length, refl, sym, ap, subst, ◌∙◌, inl, inr, arith, if◌then◌else◌}
 use Rattle.std.proofs.lemmas.Bool.{false≢true, and_parts, and_from, lt-ltb, ltb-true, le-leb, leb-true, eq-eqb, eqb-true, not-true, not_from_false, cases_Bool}
-use Rattle.std.proofs.lemmas.Bool.Decides.{eqb_tells}
 use Rattle.std.specs.List.{filter}
 use Rattle.psa_logic.specs.Sets.{Has, is_part, is_ascending, occurs}
 use Rattle.psa_logic.specs.Products.{IsImplicant, IsPrimeImplicant, IsPrimeProduct, holds_at, is_consistent, is_positive, rank_of}

@@ -1,5 +1,5 @@
 -- The ranks of each target are numbers of expanded events, and the literals of its products have ranks among them.
-use Rattle.std.proofs.Common.{◌≡◌, ◌==◌, ◌⊎◌, inl, inr, ℕ, zero, suc, ◌+◌, ◌<◌, ◌≤◌, Bool, true, false, not, ◌&&◌, cond, if◌then◌else◌, List, [], ◌∷◌, ◌++◌, map, length, Option, Some, None, refl, sym, ◌∙◌, arith}
+use Rattle.std.proofs.Common.{◌≡◌, ◌==◌, inl, inr, ℕ, zero, suc, ◌+◌, ◌≤◌, Bool, true, false, not, ◌&&◌, cond, if◌then◌else◌, List, [], ◌∷◌, ◌++◌, length, Option, Some, None, refl, ◌∙◌, arith}
 use Rattle.std.specs.Prelude.{nat_lt}
 use Rattle.std.proofs.lemmas.Bool.{and_parts, lt-ltb}
 use Rattle.std.proofs.lemmas.List.Folds.{list_all-append, list_all-map}
@@ -16,7 +16,7 @@ use Rattle.psa_model.specs.declared.model.TheConstants.{MAX_DEPTH}
 use Rattle.psa_model.specs.declared.expanded.Expanded.{Expanded}
 use Rattle.psa_model.specs.declared.targets.Target.{Target}
 use Rattle.psa_model.specs.declared.targets.Target.TheVariants.{TopEvent, Sequence}
-use Rattle.psa_model.specs.Events.{events_of, places_from}
+use Rattle.psa_model.specs.Events.{places_from}
 use Rattle.psa_model.specs.Ranks.{visits, visits_layer, firsts, target_visits, ranks_of}
 use Rattle.psa_model.specs.Report.{Analysis, IsProductOf}
 use Rattle.psa_model.specs.Standing.{ranks_stand, literals_stand}
@@ -24,12 +24,15 @@ use Rattle.psa_model.specs.Targets.{Collected, collected}
 use Rattle.psa_model.specs.Truth.{at_gate, house_states}
 use Rattle.psa_model.proofs.TargetProducts.{product-has_ranks}
 
+-- both tests, of which each gives true
 pub and-both : (a b : Bool) → a ≡ true → b ≡ true → (a && b) ≡ true
 and-both a b p q = rw (p, q) refl
 
+-- what passes in two lists passes in one after the other
 pub all-joined : {A : Type 0} (p : A → Bool) (xs ys : List A) → list_all p xs ≡ true → list_all p ys ≡ true → list_all p (xs ++ ys) ≡ true
 all-joined p xs ys h k = list_all-append p xs ys ∙ and-both (list_all p xs) (list_all p ys) h k
 
+-- a part of what passes passes
 pub all-filtered : {A : Type 0} (p q : A → Bool) (xs : List A) → list_all p xs ≡ true → list_all p (filter q xs) ≡ true
 all-filtered p q [] h = refl
 all-filtered p q (x ∷ xs) h =
@@ -39,6 +42,7 @@ all-filtered p q (x ∷ xs) h =
       | false ↦ all-filtered p q xs parts.1
     ]
 
+-- so do the numbers at their first places
 pub all-firsts : (p : ℕ → Bool) (xs : List ℕ) → list_all p xs ≡ true → list_all p (firsts xs) ≡ true
 all-firsts p [] h = refl
 all-firsts p (x ∷ xs) h =
@@ -84,6 +88,7 @@ all-target expanded (Sequence initiating sequence paths) =
     all-flat (λ x. nat_lt x (length expanded.events)) (λ one. visits (suc MAX_DEPTH) expanded one.formula) (collected expanded.model (house_states expanded.model) path)
     (λ (one : Collected). all-visits (suc MAX_DEPTH) expanded one.formula))
 
+-- whatever the model and the target
 pub ranks-standing : (expanded : Expanded) (target : Target) → ranks_stand expanded (ranks_of expanded target) ≡ true
 ranks-standing expanded target =
     list_all-map (λ (number : EventNumber). nat_lt number.0 (length expanded.events)) (λ (event : ℕ). record { 0 = event }) (firsts (target_visits expanded target))
@@ -93,6 +98,7 @@ all-has : (p : ℕ → Bool) (xs : List ℕ) → ((x : ℕ) → Has xs x → p x
 all-has p [] each = refl
 all-has p (x ∷ xs) each = and-both (p x) (list_all p xs) (each x (inl refl)) (all-has p xs (λ y has. each y (inr has)))
 
+-- a product's ranks are below the number of the target's
 pub literals-standing : (analysis : Analysis) (target : Target) (product : List ℕ) → IsProductOf analysis target product → literals_stand (ranks_of analysis.expanded target) product ≡ true
 literals-standing analysis target product one =
     all-has _ product (λ literal has. lt-ltb (rank_of literal) _ (product-has_ranks analysis target product one literal has))

@@ -1,5 +1,5 @@
 -- The targets of a model that has what is promised of one stand: so do the steps of all paths.
-use Rattle.std.proofs.Common.{◌≡◌, ◌≤◌, ◌<◌, ◌+◌, ◌-◌, ◌==◌, ℕ, zero, suc, Bool, true, false, List, [], ◌∷◌, ◌++◌, Option, None, Some, length, map, ◌&&◌, cond, if◌then◌else◌, refl, sym, ◌∙◌, arith}
+use Rattle.std.proofs.Common.{◌≡◌, ◌≤◌, ◌<◌, ◌+◌, ◌-◌, ◌==◌, ℕ, zero, suc, Bool, true, false, List, [], ◌∷◌, ◌++◌, Option, None, Some, length, map, ◌&&◌, if◌then◌else◌, refl, sym, ◌∙◌, arith}
 use Rattle.std.specs.Prelude.{nat_lt, nat_le}
 use Rattle.std.proofs.lemmas.Bool.{and_parts, false≢true, lt-ltb}
 use Rattle.std.proofs.lemmas.List.Elements.{recursion_from_All}
@@ -13,12 +13,9 @@ use Rattle.psa_model.specs.declared.model.EventTree.{EventTree}
 use Rattle.psa_model.specs.declared.model.Functional.{Functional}
 use Rattle.psa_model.specs.declared.model.Initiating.{Initiating}
 use Rattle.psa_model.specs.declared.model.Model.{Model}
-use Rattle.psa_model.specs.declared.model.NamedBranch.{NamedBranch}
 use Rattle.psa_model.specs.declared.model.RuleDefinition.{RuleDefinition}
-use Rattle.psa_model.specs.declared.model.Sequence.{Sequence}
 use Rattle.psa_model.specs.declared.targets.PathStep.{PathStep}
 use Rattle.psa_model.specs.declared.targets.PathStep.TheVariants as step
-use Rattle.psa_model.specs.declared.targets.Target.{Target}
 use Rattle.psa_model.specs.declared.targets.Target.TheVariants as target
 use Rattle.psa_model.specs.declared.walks.Branch.{Branch}
 use Rattle.psa_model.specs.declared.walks.BranchEnd.{BranchEnd}
@@ -28,12 +25,10 @@ use Rattle.psa_model.specs.declared.walks.ForkPath.{ForkPath}
 use Rattle.psa_model.specs.declared.walks.Instruction.{Instruction}
 use Rattle.psa_model.specs.declared.walks.Instruction.TheOpen.{Instruction-F}
 use Rattle.psa_model.specs.declared.walks.Instruction.TheViews.{out-Instruction}
-use Rattle.psa_model.specs.Events.{places_from}
 use Rattle.psa_model.specs.Models.{IsModel}
 use Rattle.psa_model.specs.PathLevels.{passes_there, link_within}
 use Rattle.psa_model.specs.PathTargets.{arrived_in, paths_to, sequence_targets, all_sequences, targets_of}
 use Rattle.psa_model.specs.Paths.{Travelled, Carried, Arrived, Arrival, too_long, arrives, with_step, with_fork, contents_of, one_carried, carried, after_instructions, Below, arrivals_from, link_arrivals, fork_arrivals, end_arrivals, arrivals, tree_of, paths_of}
-use Rattle.psa_model.specs.Ranks.{firsts}
 use Rattle.psa_model.specs.Standing.{step_stands, target_stands}
 use Rattle.psa_model.specs.Targets.{is_top_event, top_events, top_targets}
 use Rattle.psa_model.specs.Tests.{is_true_in}
@@ -237,6 +232,7 @@ top-targets-stand model =
     list_all-map (target_stands model) (λ (place : ℕ). target.TopEvent (record { 0 = place })) (top_events model)
     ∙ all-places (is_top_event model) (length model.gates) 0 model.gates (omega arith)
 
+-- the top events by their places, the sequences by what is promised of event trees
 pub targets-standing : (model : Model) → IsModel model → list_all (target_stands model) (targets_of model) ≡ true
 targets-standing model is =
     all-joined (target_stands model) (top_targets model) (all_sequences model 0 model.initiatings) (top-targets-stand model)

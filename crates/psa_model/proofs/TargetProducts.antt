@@ -1,7 +1,7 @@
 -- The products of a target hold its ranks alone, and a listing of them exists.
-use Rattle.std.proofs.Common.{◌≡◌, ◌⊎◌, ℕ, zero, suc, ◌+◌, ◌*◌, ◌/◌, ◌<◌, Bool, true, false, List, [], ◌∷◌, length, refl, ap, sym, subst, ◌∙◌, inl, inr, arith, if◌then◌else◌}
+use Rattle.std.proofs.Common.{◌≡◌, ◌⊎◌, ℕ, suc, ◌+◌, ◌*◌, ◌/◌, ◌<◌, Bool, List, [], ◌∷◌, length, refl, ap, sym, subst, ◌∙◌, arith}
 use Rattle.psa_logic.specs.Sets.{Has}
-use Rattle.psa_logic.specs.Products.{IsListing, rank_of, positive_product}
+use Rattle.psa_logic.specs.Products.{IsListing, rank_of}
 use Rattle.psa_logic.proofs.ListingLemmas.{has-map_from}
 use Rattle.psa_model.specs.declared.expanded.Expanded.{Expanded}
 use Rattle.psa_model.specs.declared.ids.EventNumber.{EventNumber}

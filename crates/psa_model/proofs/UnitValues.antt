@@ -1,5 +1,5 @@
 -- The intervals of the events of a model lie within 0 and 1, and there is one for each event.
-use Rattle.std.proofs.Common.{◌≡◌, ◌≤ℤ◌, pos, Bool, true, false, suc, List, [], ◌∷◌, Option, None, Some, Ok, Err, length, int_lt, ◌||◌, if◌then◌else◌, refl, ap, subst, arith}
+use Rattle.std.proofs.Common.{◌≡◌, pos, Bool, true, false, suc, List, [], ◌∷◌, Option, None, Some, Ok, Err, length, int_lt, ◌||◌, if◌then◌else◌, refl, ap, subst, arith}
 use Rattle.std.proofs.lemmas.Int.{ints, clamps}
 use Rattle.std.proofs.lemmas.List.Elements.{All-from_recursion}
 use Rattle.std.specs.List.{All, AllByRecursion}
@@ -42,6 +42,7 @@ events-in mission model (event ∷ events) es is =
     let rest = events-in mission model events more others in
     (ap suc rest.0, (expression-in mission model (expression_of model event) a one, rest.1)))
 
+-- over the events of the expanded model
 pub values-in : (mission : Scaled) (expanded : Expanded) (values : List Ends) → values_of mission expanded ≡ Ok values → (length values ≡ length expanded.events) × All IsInUnit values
 values-in mission expanded values is =
     let found = events-in mission expanded.model expanded.events values is in

@@ -1,5 +1,5 @@
 -- Worked models, as drafts. This project's own.
-use Rattle.std.specs.Prelude.{ℕ, Bool, true, false, negsuc, List, [], ◌∷◌, ◌++◌, Option, Some, None, codes}
+use Rattle.std.specs.Prelude.{ℕ, true, false, negsuc, List, [], ◌∷◌, ◌++◌, Some, None, codes}
 use Rattle.psa_model.specs.PathNames.{Text}
 use Rattle.psa_model.specs.declared.formula.Connective.TheVariants.{And, Or}
 use Rattle.psa_model.specs.declared.model.GroupModel.TheVariants.{Mgl}
@@ -10,7 +10,6 @@ use Rattle.psa_model.specs.declared.draft.DefinitionKind.TheVariants as kind
 use Rattle.psa_model.specs.declared.draft.DraftBody.{DraftBody}
 use Rattle.psa_model.specs.declared.draft.DraftBody.TheVariants as body
 use Rattle.psa_model.specs.declared.draft.DraftReference.{DraftReference}
-use Rattle.psa_model.specs.declared.draft.DraftGroup.{DraftGroup}
 use Rattle.psa_model.specs.declared.draft.EventKind.TheVariants as asked
 use Rattle.psa_model.specs.declared.draft.DraftExpression.{DraftExpression}
 use Rattle.psa_model.specs.declared.draft.DraftExpression.TheVariants as expression

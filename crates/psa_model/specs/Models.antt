@@ -1,8 +1,9 @@
 -- What is promised of a model whose names are resolved: its references stand, no chain of them leads back or is too
--- deep, numbers of arguments and nesting are those of its draft, its groups are right, and its size is limited.
+-- deep, numbers of arguments and nesting are those of its draft, and its groups are right; and, beside it, the limit of
+-- its size.
 -- The models of common cause groups and their levels are those of the Open-PSA Model Exchange Format 2.0d; their sizes,
 -- the order and the limits are this project's own.
-use Rattle.std.specs.Prelude.{◌≡◌, ◌==◌, ◌+◌, ◌-◌, ◌≤◌, ◌<◌, ℕ, zero, suc, Bool, true, false, List, [], ◌∷◌, ◌++◌, Option, None, Some, All, IfSome, is_none, length, map, max, sum, filter, flat_map, nat_le, nat_lt, ◌&&◌, ◌||◌, not}
+use Rattle.std.specs.Prelude.{◌≡◌, ◌==◌, ◌+◌, ◌-◌, ◌≤◌, ◌<◌, ℕ, zero, suc, Bool, true, false, List, [], ◌∷◌, ◌++◌, Option, None, Some, All, IfSome, is_none, length, map, max, sum, filter, flat_map, nat_le, ◌&&◌, not}
 use Rattle.std.specs.List.{slice_get, list_all, list_any, filter_map, range_with_len}
 use Rattle.psa_model.specs.declared.expression.Expression.{Expression}
 use Rattle.psa_model.specs.declared.expression.Expression.TheOpen.{Expression-F}
@@ -166,6 +167,10 @@ model_size model =
     + length model.functionals + length model.sequences + length model.branches + length model.initiatings
     + length (members_of model) + length model.formulas
 
+-- the limit of the size where names are resolved; a model with added events may be greater
+abbrev pub IsOfSize : Model → Type 0
+IsOfSize model = model_size model ≤ MAX_SIZE
+
 -- ---- the promise
 
 -- the event tree with an id
@@ -192,4 +197,3 @@ pub record IsModel (model : Model) : Type 0 where
   pub sequences : All (IsSequence model) model.sequences
   pub branches : All (λ named. (walk_within MAX_DEPTH model named.branch ≡ true) × TreeStands model named.tree) model.branches
   pub initiatings : All (λ initiating. IfSome initiating.tree (TreeStands model)) model.initiatings
-  pub few : model_size model ≤ MAX_SIZE

@@ -5,7 +5,7 @@ ghost use Rattle.psa_model.specs.declared.model.Model.{Model};
 ghost use Rattle.psa_model.specs.declared.walks.Branch.{Branch};
 ghost use Rattle.psa_model.specs.declared.walks.Instruction.{Instruction};
 ghost use Rattle.psa_model.specs.GroupExample.{group_model};
-ghost use Rattle.psa_model.specs.Models.{IsModel};
+ghost use Rattle.psa_model.specs.Models.{IsModel, IsOfSize};
 ghost use Rattle.psa_model.specs.PathLevels.{branch_within};
 ghost use Rattle.psa_model.specs.WalkLevels.{instruction_within, walk_within};
 
@@ -20,7 +20,9 @@ pub fn more_levels_change_no_walk()
         → walk_within n model branch ≡ true → branch_within n model branch ≡ true }
 {}
 
-/// The model of a group of three members has what is promised of a model.
+/// The model of a group of three members has what is promised of a model, and is of the size that is
+/// asked for.
 pub fn group_is_a_model()
-    ensures { IsModel group_model }
+    ensures model { IsModel group_model }
+    ensures size { IsOfSize group_model }
 {}

@@ -12,12 +12,14 @@ ghost use Rattle.psa_model.specs.Standing.{literals_stand, ranks_stand, target_s
 
 /// The targets of a model that has what is promised of one stand.
 pub fn targets_of_a_model_stand()
-    ensures { (model : Model) → IsModel model → list_all (target_stands model) (targets_of model) ≡ true }
+    ensures { (model : Model) → IsModel model
+        → list_all (target_stands model) (targets_of model) ≡ true }
 {}
 
 /// The ranks of a target are those of expanded events, whatever the model and the target.
 pub fn ranks_of_a_target_stand()
-    ensures { (expanded : Expanded) (target : Target) → ranks_stand expanded (ranks_of expanded target) ≡ true }
+    ensures { (expanded : Expanded) (target : Target)
+        → ranks_stand expanded (ranks_of expanded target) ≡ true }
 {}
 
 /// The literals of a target's products have ranks of its events.

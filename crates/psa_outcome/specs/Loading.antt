@@ -4,7 +4,7 @@ use Rattle.psa_model.specs.declared.fault.ModelFault.{ModelFault}
 use Rattle.psa_model.specs.declared.settings.Input.{Input}
 use Rattle.psa_model.specs.declared.settings.Input.TheVariants.{Files, Sample}
 use Rattle.psa_model.specs.declared.settings.Settings.{Settings}
-use Rattle.psa_model.specs.Models.{IsModel}
+use Rattle.psa_model.specs.Models.{IsModel, IsOfSize}
 use Rattle.psa_model.specs.PathTargets.{targets_of}
 use Rattle.psa_ports.specs.Counts.{Rose}
 use Rattle.psa_outcome.specs.declared.loaded.Loaded.{Loaded}
@@ -25,10 +25,11 @@ IsInput (Sample n) = (2 ≤ n) × (n ≤ 1000)
 abbrev pub loaded_analysis : Loaded → Analysis
 loaded_analysis loaded = record { settings = loaded.settings; expanded = loaded.expanded; values = loaded.values }
 
--- The model is resolved and has no fault of paths, of too many events or of values; events, targets, ranks and values are
--- those of the settings and the model.
+-- The model is resolved, of limited size, and has no fault of paths, of too many events or of values; events, targets,
+-- ranks and values are those of the settings and the model.
 pub record IsLoaded (loaded : Loaded) : Type 0 where
   pub model : IsModel loaded.expanded.model
+  pub few : IsOfSize loaded.expanded.model
   pub analysed : analysis_of_model loaded.settings loaded.expanded.model ≡ Ok (loaded_analysis loaded)
   pub targets : loaded.targets ≡ targets_of loaded.expanded.model
   pub ranks : loaded.ranks ≡ map (ranks_of loaded.expanded) loaded.targets
