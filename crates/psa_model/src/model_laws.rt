@@ -20,8 +20,8 @@ pub fn more_levels_change_no_walk()
         → walk_within n model branch ≡ true → branch_within n model branch ≡ true }
 {}
 
-/// The model of a group of three members has what is promised of a model, and is of the size that is
-/// asked for.
+/// The model of a group of three members has what is promised of a model, and its size is within the
+/// limit.
 pub fn group_is_a_model()
     ensures model { IsModel group_model }
     ensures size { IsOfSize group_model }
