@@ -22,8 +22,10 @@ use Rattle.psa_model.specs.declared.settings.Mode.{Mode}
 use Rattle.psa_model.specs.declared.settings.Mode.TheVariants.{CutSets}
 use Rattle.psa_model.specs.declared.settings.Settings.{Settings}
 use Rattle.psa_model.specs.declared.targets.Target.{Target}
+use Rattle.psa_number.specs.Ends.{Ends}
+use Rattle.psa_model.specs.Quantities.{min_cut_of, zero_ends}
 use Rattle.psa_model.specs.Ranks.{ranks_of}
-use Rattle.psa_model.specs.Report.{IsProductIn, IsSection, bounds_of, count_line, is_kept_in, product_line, ranked_truth, section_text, target_line, total_lines}
+use Rattle.psa_model.specs.Report.{IsProductIn, IsSection, count_line, is_kept_in, product_line, ranked_truth, section_text, target_line, total_lines}
 use Rattle.psa_model.specs.Targets.{truth_by_rank}
 use Rattle.psa_model.proofs.TargetProducts.{truth-agree}
 use Rattle.psa_subsets.specs.Blind.{LooksBelow}
@@ -117,19 +119,18 @@ all-kept : (products : List (List ℕ)) → filter (λ product. true) products �
 all-kept [] = refl
 all-kept (product ∷ products) = ap (λ more. product ∷ more) (all-kept products)
 
-no-totals : (settings : Settings) (expanded : Expanded) (target : Target) (products : List (List ℕ)) → settings.rare_event ≡ false → settings.mcub ≡ false
-    → total_lines settings (bounds_of (plain_analysis settings expanded) target products) ≡ []
-no-totals settings expanded target products rare_event mcub = rw (rare_event, mcub) refl
+no-totals : (settings : Settings) (sum bound : Ends) → settings.rare_event ≡ false → settings.mcub ≡ false → total_lines settings sum bound ≡ []
+no-totals settings sum bound rare_event mcub = rw (rare_event, mcub) refl
 
 -- at the first settings, a section is the one without quantities over all its products
 pub section-plain : (settings : Settings) (expanded : Expanded) (target : Target) (products : List (List ℕ)) → AreFirst settings
     → section_text (plain_analysis settings expanded) target (filter (is_kept_in (plain_analysis settings expanded) target) products)
     ≡ section_without_quantities expanded target (ranks_of expanded target) products
 section-plain settings expanded target products first =
-    let front : List ℕ = target_line expanded.model target ++ flat_map (product_line (plain_analysis settings expanded) target) products ++ count_line (length products) in
+    let front : List ℕ = target_line expanded.model target ++ flat_map (product_line (plain_analysis settings expanded) target) products in
     ap (section_text (plain_analysis settings expanded) target) (all-kept products)
-    ∙ ap (λ totals. front ++ totals) (no-totals settings expanded target products (ap (λ (s : Settings). s.rare_event) first.1) (ap (λ (s : Settings). s.mcub) first.1))
-    ∙ append-nil front
+    ∙ ap (λ totals. front ++ (count_line (length products) ++ totals)) (no-totals settings zero_ends (min_cut_of []) (ap (λ (s : Settings). s.rare_event) first.1) (ap (λ (s : Settings). s.mcub) first.1))
+    ∙ ap (λ totals. front ++ totals) (append-nil (count_line (length products)))
 
 -- the section of a target over what was found
 pub section-found : (settings : Settings) (expanded : Expanded) (target : Target) (ranks : List EventNumber) (f : (ℕ → Bool) → Bool) (sets : List (List ℕ)) (text : List ℕ)

@@ -8,9 +8,9 @@ use Rattle.psa_model.specs.declared.ids.EventNumber.{EventNumber}
 use Rattle.psa_model.specs.declared.expanded.Expanded.{Expanded}
 use Rattle.psa_model.specs.Names.{ranked_text}
 use Rattle.psa_model.specs.declared.targets.Target.{Target}
-use Rattle.psa_model.specs.Report.{literal_text, literals_text, target_line, count_line}
-use Rattle.psa_engine.specs.Joined.{events_after, line_without_bound, section_without_quantities}
-use Rattle.std.specs.Prelude.{codes}
+use Rattle.psa_model.specs.Report.{literal_text, literals_text, product_text, target_line, count_line}
+use Rattle.psa_engine.specs.Joined.{events_after, section_without_quantities}
+use Rattle.std.specs.Prelude.{None, codes}
 
 even : (rank : ℕ) → (2 * rank) % 2 ≡ 0
 even rank = omega arith
@@ -50,11 +50,11 @@ literals-in-parts expanded ranks old mid new set first more is_set is_mid is_new
 pub section-in-parts : (expanded : Expanded) (target : Target) (ranks : List EventNumber) (sets : List (List ℕ)) (start line products text : List ℕ)
     → start ≡ []
     → line ≡ start ++ target_line expanded.model target
-    → products ≡ line ++ flat_map (λ set. line_without_bound expanded ranks (positive_product set)) sets
+    → products ≡ line ++ flat_map (λ set. product_text expanded ranks None (positive_product set)) sets
     → text ≡ products ++ count_line (length sets)
     → text ≡ section_without_quantities expanded target ranks (map positive_product sets)
 section-in-parts expanded target ranks sets start line products text is_start is_line is_products is_text =
-    rw (flat_map-map (line_without_bound expanded ranks) positive_product sets, length-map sets positive_product)
+    rw (flat_map-map (product_text expanded ranks None) positive_product sets, length-map sets positive_product)
     (is_text ∙ ap (λ t. t ++ count_line (length sets))
-    (is_products ∙ ap (λ t. t ++ flat_map (λ set. line_without_bound expanded ranks (positive_product set)) sets)
+    (is_products ∙ ap (λ t. t ++ flat_map (λ set. product_text expanded ranks None (positive_product set)) sets)
     (is_line ∙ ap (λ t. t ++ target_line expanded.model target) is_start)))

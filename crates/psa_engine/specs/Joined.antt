@@ -1,6 +1,6 @@
--- What is left of names joined by one space, before the first name and after it; the lines of a section without
+-- What is left of names joined by one space, before the first name and after it; a section without
 -- quantities.
-use Rattle.std.specs.Prelude.{ℕ, Bool, true, false, List, [], ◌∷◌, ◌++◌, codes, decimal, length}
+use Rattle.std.specs.Prelude.{ℕ, Bool, true, false, List, [], ◌∷◌, ◌++◌, None, codes, length}
 use Rattle.std.specs.List.{flat_map, join_by}
 use Rattle.psa_model.specs.declared.ids.EventId.{EventId}
 use Rattle.psa_model.specs.declared.model.Model.{Model}
@@ -8,7 +8,7 @@ use Rattle.psa_model.specs.declared.ids.EventNumber.{EventNumber}
 use Rattle.psa_model.specs.declared.expanded.Expanded.{Expanded}
 use Rattle.psa_model.specs.declared.targets.Target.{Target}
 use Rattle.psa_model.specs.Names.{basic_name, ranked_text}
-use Rattle.psa_model.specs.Report.{count_line, literals_text, target_line}
+use Rattle.psa_model.specs.Report.{count_line, product_text, target_line}
 
 abbrev pub names_left : Model → Bool → List EventId → List ℕ
 names_left model true events = join_by (λ id. basic_name model id.0) (codes " ") events
@@ -18,12 +18,7 @@ names_left model false events = flat_map (λ id. (codes " ") ++ basic_name model
 abbrev pub events_after : Expanded → List EventNumber → List ℕ → List ℕ
 events_after expanded ranks set = flat_map (λ rank. (codes " ") ++ ranked_text expanded ranks rank) set
 
--- the line of a product whose events have the ranks
-abbrev pub line_without_bound : Expanded → List EventNumber → List ℕ → List ℕ
-line_without_bound expanded ranks product =
-    codes "- " ++ decimal (length product) ++ codes " " ++ literals_text expanded ranks product ++ codes "\n"
-
 -- the section of a target over its products
 abbrev pub section_without_quantities : Expanded → Target → List EventNumber → List (List ℕ) → List ℕ
 section_without_quantities expanded target ranks products =
-    target_line expanded.model target ++ flat_map (line_without_bound expanded ranks) products ++ count_line (length products)
+    target_line expanded.model target ++ flat_map (product_text expanded ranks None) products ++ count_line (length products)

@@ -1,9 +1,9 @@
-ghost use Rattle.std.specs.Prelude.{◌≡◌, ◌++◌, [], ◌∷◌, map, codes, OnOk, IfOk, length};
+ghost use Rattle.std.specs.Prelude.{◌≡◌, ◌++◌, [], ◌∷◌, None, map, codes, OnOk, IfOk, length};
 ghost use Rattle.std.specs.List.{flat_map};
 ghost use Rattle.psa_logic.specs.Products.{positive_product};
 ghost use Rattle.psa_model.specs.Names.{name_in};
-ghost use Rattle.psa_model.specs.Report.{count_line, gate_tree_name, literals_text, sequence_tree_name, target_line};
-ghost use Rattle.psa_engine.specs.Joined.{events_after, line_without_bound, section_without_quantities};
+ghost use Rattle.psa_model.specs.Report.{count_line, gate_tree_name, literals_text, product_text, sequence_tree_name, target_line};
+ghost use Rattle.psa_engine.specs.Joined.{events_after, section_without_quantities};
 
 use crate::names::push_ranked;
 use itoa::Buffer;
@@ -155,7 +155,7 @@ fn push_products(
     sets: &[Items<u32>],
 ) -> Result<(), OutOfMemory>
     ensures { OnOk result (text.new.items ≡ text.old.items ++ flat_map
-        (λ set. line_without_bound expanded.now ranks.now (positive_product set)) sets.now) }
+        (λ set. product_text expanded.now ranks.now None (positive_product set)) sets.now) }
 {
     for set in sets {
         push_product(text, expanded, ranks, set.as_slice())?;
@@ -171,7 +171,7 @@ fn push_product(
     set: &[u32],
 ) -> Result<(), OutOfMemory>
     ensures { OnOk result (text.new.items
-        ≡ text.old.items ++ line_without_bound expanded.now ranks.now (positive_product set.now)) }
+        ≡ text.old.items ++ product_text expanded.now ranks.now None (positive_product set.now)) }
 {
     let mut digits = Buffer::new();
     text.extend_from_slice(b"- ")?;
