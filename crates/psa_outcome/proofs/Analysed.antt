@@ -69,14 +69,14 @@ refers-basic : (gate : ℕ) (id : EventId) → fold-Formula Bool (refers_step ga
 refers-basic gate id =
     ap (fold-Formula Bool (refers_step gate)) (sym (formula.rolls-Basic id)) ∙ fold-roll-Formula Bool (refers_step gate) (Formula-F.Basic id)
 
-visits-suc : (levels : ℕ) (expanded : Expanded) (f : Formula) → visits (suc levels) expanded f ≡ visits_layer expanded (λ g. visits levels expanded g) (out-Formula f)
+pub visits-suc : (levels : ℕ) (expanded : Expanded) (f : Formula) → visits (suc levels) expanded f ≡ visits_layer expanded (λ g. visits levels expanded g) (out-Formula f)
 unfolding visits
 visits-suc levels expanded f = refl
 
-out-gate : (id : GateId) → out-Formula (formula.Gate id) ≡ Formula-F.Gate id
+pub out-gate : (id : GateId) → out-Formula (formula.Gate id) ≡ Formula-F.Gate id
 out-gate id = ap out-Formula (sym (formula.rolls-Gate id)) ∙ out-roll-Formula (Formula-F.Gate id)
 
-out-basic : (id : EventId) → out-Formula (formula.Basic id) ≡ Formula-F.Basic id
+pub out-basic : (id : EventId) → out-Formula (formula.Basic id) ≡ Formula-F.Basic id
 out-basic id = ap out-Formula (sym (formula.rolls-Basic id)) ∙ out-roll-Formula (Formula-F.Basic id)
 
 visited : (n : ℕ) (ccf : Bool) → visits (suc (suc n)) (expanded_of ccf no_value_model) (formula.Gate (record { 0 = 0 })) ≡ 0 ∷ []

@@ -3,3 +3,4 @@ pub mod SettingsLemmas
 pub mod OriginLemmas
 pub mod Analysed
 pub mod RowLemmas
+pub mod RankedGroup

@@ -8,3 +8,4 @@ pub mod Origins
 pub mod Runs
 pub mod RunOutcome
 pub mod Loading
+pub mod GroupRanksExample

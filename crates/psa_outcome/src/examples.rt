@@ -1,13 +1,17 @@
 //! What the definitions say of small inputs. The functions do nothing: their contracts are the
 //! examples.
-ghost use Rattle.std.specs.Prelude.{◌≡◌, [], ◌∷◌, true, false, None, Ok, Err, codes};
+ghost use Rattle.std.specs.Prelude.{◌≡◌, [], ◌∷◌, true, false, None, Ok, Err, codes, map};
 ghost use Rattle.psa_model.specs.declared.fault.FaultKind.TheVariants.{UnknownElement};
 ghost use Rattle.psa_model.specs.declared.settings.Settings.{Settings};
+ghost use Rattle.psa_model.specs.declared.targets.Target.TheVariants.{TopEvent};
 ghost use Rattle.psa_model.specs.Expansion.{expanded_of};
 ghost use Rattle.psa_model.specs.FaultTexts.{fault_line};
+ghost use Rattle.psa_model.specs.Names.{ranked_text};
+ghost use Rattle.psa_model.specs.Ranks.{ranks_of};
 ghost use Rattle.psa_reader.specs.ExampleTrees.{stray_if};
 ghost use Rattle.psa_outcome.specs.Analyses.{analysis_of};
 ghost use Rattle.psa_outcome.specs.AnalysisExample.{no_value_fault, no_value_model, no_value_tree};
+ghost use Rattle.psa_outcome.specs.GroupRanksExample.{group_gate_model, numbered};
 ghost use Rattle.psa_model.specs.Quantities.{has_quantities};
 ghost use Rattle.psa_outcome.specs.SampleText.{sample_text, two_trains};
 
@@ -36,4 +40,16 @@ pub fn an_event_without_value_is_a_fault_of_quantities()
 /// The text of the sample of two trains.
 pub fn the_sample_of_two()
     ensures { sample_text 2 ≡ two_trains }
+{}
+
+/// The events of an expanded group of three members, by rank in a gate that is `and` of the members:
+/// the subsets that hold the first member, then those met at the second, then at the third.
+pub fn events_of_a_group_by_rank()
+    ensures ranks { ranks_of (expanded_of true group_gate_model) (TopEvent (record { 0 = 0 }))
+        ≡ numbered (0 ∷ 3 ∷ 4 ∷ 6 ∷ 1 ∷ 5 ∷ 2 ∷ []) }
+    ensures names { map
+        (ranked_text (expanded_of true group_gate_model) (numbered (0 ∷ 3 ∷ 4 ∷ 6 ∷ 1 ∷ 5 ∷ 2 ∷ [])))
+        (0 ∷ 1 ∷ 2 ∷ 3 ∷ 4 ∷ 5 ∷ 6 ∷ [])
+        ≡ codes "[A]" ∷ codes "[A B]" ∷ codes "[A C]" ∷ codes "[A B C]" ∷ codes "[B]"
+        ∷ codes "[B C]" ∷ codes "[C]" ∷ [] }
 {}
