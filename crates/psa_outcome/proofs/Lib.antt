@@ -4,3 +4,4 @@ pub mod OriginLemmas
 pub mod Analysed
 pub mod RowLemmas
 pub mod RankedGroup
+pub mod UnitySection

@@ -9,3 +9,4 @@ pub mod Runs
 pub mod RunOutcome
 pub mod Loading
 pub mod GroupRanksExample
+pub mod UnityExample

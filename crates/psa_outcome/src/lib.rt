@@ -8,8 +8,8 @@ mod loaded;
 mod status;
 
 pub use examples::{
-    a_stray_if_is_the_first_fault, an_event_without_value_is_a_fault_of_quantities,
-    events_of_a_group_by_rank, the_sample_of_two,
+    a_certain_top_event_is_unity, a_stray_if_is_the_first_fault,
+    an_event_without_value_is_a_fault_of_quantities, events_of_a_group_by_rank, the_sample_of_two,
 };
 pub use laws::{
     analyses_are_by_their_settings, fault_lines_are_determined, inputs_have_one_outcome,
