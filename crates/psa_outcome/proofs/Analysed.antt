@@ -20,19 +20,19 @@ use Rattle.psa_model.specs.PathTargets.{targets_of}
 use Rattle.psa_model.specs.Ranks.{visits, visits_layer}
 use Rattle.psa_model.specs.Targets.{refers_step}
 use Rattle.psa_model.specs.Values.{values_of}
-use Rattle.psa_reader.specs.DraftReading.{ElementReading, reading_layer, draft_of}
-use Rattle.psa_reader.specs.ExampleTrees.{stray_if}
-use Rattle.psa_reader.specs.ShapeFaults.{ElementFaults, faults_layer, shape_fault}
+use Rattle.psa_elements.specs.DraftReading.{ElementReading, reading_layer, draft_of}
+use Rattle.psa_elements.specs.ExampleTrees.{stray_if}
+use Rattle.psa_elements.specs.ShapeFaults.{ElementFaults, faults_layer, shape_fault}
 use Rattle.psa_model.specs.declared.draft.EventKind.TheVariants as asked-kind
-use Rattle.psa_checks.specs.Chains.{leads, is_within}
-use Rattle.psa_checks.specs.NameFaults.{first_fault, name_fault}
-use Rattle.psa_checks.specs.Outlines as reference
-use Rattle.psa_checks.specs.Outlines.{Outline, Entries, naming, formula_layer, entries_of}
-use Rattle.psa_checks.proofs.Forms.{at-event}
+use Rattle.psa_names.specs.Chains.{leads, is_within}
+use Rattle.psa_names.specs.NameFaults.{first_fault, name_fault}
+use Rattle.psa_names.specs.Outlines as reference
+use Rattle.psa_names.specs.Outlines.{Outline, Entries, naming, formula_layer, entries_of}
+use Rattle.psa_names.proofs.Forms.{at-event}
 use Rattle.psa_outcome.specs.Analyses.{unless, with_values, with_quantities, analysis_of_model, analysis_of_draft, analysis_of}
 use Rattle.psa_outcome.specs.AnalysisExample.{first_line, no_value_tree, no_value_draft, no_value_model, no_value_fault}
 use Rattle.psa_model.specs.RankFaults.{rank_fault}
-use Rattle.psa_checks.specs.ModelOfDraft.{model_from, model_of}
+use Rattle.psa_names.specs.ModelOfDraft.{model_from, model_of}
 use Rattle.psa_model.specs.Quantities.{has_quantities}
 use Rattle.psa_model.specs.Report.{Analysis}
 

@@ -15,13 +15,13 @@ use Rattle.psa_model.specs.declared.targets.Target.{Target}
 use Rattle.psa_model.specs.Ranks.{ranks_of}
 use Rattle.psa_model.specs.Values.{quantities_of, values_of}
 use Rattle.psa_model.proofs.HeldTotals.{bound-held, rare-event-held, min-cut-held}
-use Rattle.psa_reader.specs.DraftReading.{draft_of}
-use Rattle.psa_reader.specs.ShapeFaults.{shape_fault}
-use Rattle.psa_checks.specs.NameFaults.{name_fault}
+use Rattle.psa_elements.specs.DraftReading.{draft_of}
+use Rattle.psa_elements.specs.ShapeFaults.{shape_fault}
+use Rattle.psa_names.specs.NameFaults.{name_fault}
 use Rattle.psa_outcome.specs.Brackets.{AreBracketed, IsBracketed}
 use Rattle.psa_outcome.specs.Analyses.{unless, with_values, with_quantities, analysis_of_expanded, analysis_of_model, analysis_of_draft, analysis_of}
 use Rattle.psa_model.specs.RankFaults.{rank_fault}
-use Rattle.psa_checks.specs.ModelOfDraft.{model_of}
+use Rattle.psa_names.specs.ModelOfDraft.{model_of}
 use Rattle.psa_model.specs.Quantities.{has_quantities}
 use Rattle.psa_model.specs.Report.{Analysis}
 

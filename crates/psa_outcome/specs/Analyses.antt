@@ -13,10 +13,10 @@ use Rattle.psa_model.specs.PathFaults.{walk_fault}
 use Rattle.psa_model.specs.PathTargets.{targets_of}
 use Rattle.psa_model.specs.RankFaults.{rank_fault}
 use Rattle.psa_model.specs.Values.{values_of}
-use Rattle.psa_reader.specs.DraftReading.{draft_of}
-use Rattle.psa_reader.specs.ShapeFaults.{shape_fault}
-use Rattle.psa_checks.specs.NameFaults.{name_fault}
-use Rattle.psa_checks.specs.ModelOfDraft.{model_of}
+use Rattle.psa_elements.specs.DraftReading.{draft_of}
+use Rattle.psa_elements.specs.ShapeFaults.{shape_fault}
+use Rattle.psa_names.specs.NameFaults.{name_fault}
+use Rattle.psa_names.specs.ModelOfDraft.{model_of}
 use Rattle.psa_model.specs.Quantities.{has_quantities}
 use Rattle.psa_model.specs.Report.{Analysis}
 

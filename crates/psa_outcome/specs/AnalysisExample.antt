@@ -12,7 +12,7 @@ use Rattle.psa_model.specs.declared.formula.Formula.TheVariants as resolved
 use Rattle.psa_model.specs.declared.ids.Place.{Place}
 use Rattle.psa_model.specs.declared.model.Model.{Model}
 use Rattle.psa_model.specs.declared.model.Valued.TheVariants as valued
-use Rattle.psa_reader.specs.ExampleTrees.{el, named, ref, root_of}
+use Rattle.psa_elements.specs.ExampleTrees.{el, named, ref, root_of}
 
 -- all in line 1: a fault tree F with the gate top, which is the basic event a
 abbrev pub no_value_tree : Element

@@ -11,7 +11,7 @@ ghost use Rattle.psa_model.specs.Names.{ranked_text};
 ghost use Rattle.psa_model.specs.Quantities.{has_quantities};
 ghost use Rattle.psa_model.specs.Ranks.{ranks_of};
 ghost use Rattle.psa_model.specs.Report.{IsProductOf, IsSection};
-ghost use Rattle.psa_reader.specs.ExampleTrees.{stray_if};
+ghost use Rattle.psa_elements.specs.ExampleTrees.{stray_if};
 ghost use Rattle.psa_outcome.specs.Analyses.{analysis_of};
 ghost use Rattle.psa_outcome.specs.AnalysisExample.{no_value_fault, no_value_model, no_value_tree};
 ghost use Rattle.psa_outcome.specs.GroupRanksExample.{group_gate_model, numbered};

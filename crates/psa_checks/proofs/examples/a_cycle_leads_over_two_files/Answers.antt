@@ -1,5 +1,0 @@
-use Rattle.psa_checks.proofs.Computed.{cycle}
-use Rattle.psa_checks.proofs.examples.a_cycle_leads_over_two_files.Goals as goal
-
-pub returns : goal.returns
-returns c = cycle

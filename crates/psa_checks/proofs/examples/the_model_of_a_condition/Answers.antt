@@ -1,5 +1,0 @@
-use Rattle.psa_checks.proofs.Modelled.{condition}
-use Rattle.psa_checks.proofs.examples.the_model_of_a_condition.Goals as goal
-
-pub returns : goal.returns
-returns c = condition

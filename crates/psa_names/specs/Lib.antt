@@ -1,0 +1,13 @@
+pub mod Outlines
+pub mod PlacedFaults
+pub mod NameSpaces
+pub mod Meanings
+pub mod GroupRules
+pub mod Chains
+pub mod NameFaults
+pub mod Found
+pub mod Ids
+pub mod Resolved
+pub mod Collected
+pub mod ModelOfDraft
+pub mod ExampleModels

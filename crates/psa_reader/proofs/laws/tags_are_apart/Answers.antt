@@ -1,5 +1,0 @@
-use Rattle.psa_reader.proofs.TableLemmas.{tags-distinct}
-use Rattle.psa_reader.proofs.laws.tags_are_apart.Goals as goal
-
-pub returns : goal.returns
-returns c = tags-distinct
