@@ -1,3 +1,4 @@
 pub mod RisenCountLemmas
 pub mod WrittenPieceLemmas
 pub mod FilePlaceLemmas
+mod BlockLemmas

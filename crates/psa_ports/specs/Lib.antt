@@ -4,3 +4,4 @@ pub mod Sink
 pub mod MemoryFolder
 pub mod MemorySink
 pub mod Real
+pub mod BlockSink

@@ -1,6 +1,6 @@
-ghost use Rattle.std.specs.Prelude.{◌≡◌, ◌<◌, ℕ, List, Option, Some, not, is_ok, IfOk, length};
+ghost use Rattle.std.specs.Prelude.{◌≡◌, ◌<◌, ℕ, List, [], Option, Some, Ok, not, is_ok, IfOk, length};
 ghost use Rattle.std.specs.Io.{WritesAtMost};
-ghost use Rattle.std.specs.Io.KnownBytes.{WriteAppends};
+ghost use Rattle.std.specs.Io.KnownBytes.{Keeps, WriteAppends};
 ghost use Rattle.psa_ports.specs.Counts.{HasCause};
 ghost use Rattle.psa_ports.specs.MemorySink.{new_sink, refuses, write_count, after_write};
 
@@ -88,6 +88,8 @@ impl Sink for MemorySink {
 
     ghost faults = { λ s. s.faults };
 
+    ghost waiting = { λ _. [] };
+
     /// Takes as many bytes as `piece`, the sink's own piece and its room allow. Refuses exactly
     /// where this write is one of those that fail or the room is full; nothing is taken then.
     fn write(&mut self, piece: &[u8]) -> Result<usize, Failed>
@@ -117,5 +119,14 @@ impl Sink for MemorySink {
             .extend_from_slice(piece.split_at(count).0)
             .unwrap();
         Ok(count)
+    }
+
+    /// Nothing waits in memory.
+    fn flush(&mut self) -> Result<(), Failed>
+        ensures kept { Keeps (Some self.old.written) (Some self.new.written) }
+        ensures cause { HasCause self.old.faults self.new.faults result }
+        ensures exact { (result ≡ Ok tt) × (self.new ≡ self.old) }
+    {
+        Ok(())
     }
 }

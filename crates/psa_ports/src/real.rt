@@ -171,6 +171,8 @@ impl<W: Write> Sink for StdSink<W> {
 
     ghost faults = { λ s. s.faults };
 
+    ghost waiting = { λ _. [] };
+
     /// Writes once, and flushes. Refuses where the writer fails, takes nothing, or can't be flushed.
     fn write(&mut self, piece: &[u8]) -> Result<usize, Failed>
         ensures least { IfOk result (λ count. 0 < count) }
@@ -189,5 +191,13 @@ impl<W: Write> Sink for StdSink<W> {
         }
         self.faults = self.faults.saturating_add(1);
         Err(Failed)
+    }
+
+    /// Nothing waits, since each write is flushed.
+    fn flush(&mut self) -> Result<(), Failed>
+        ensures cause { HasCause self.old.faults self.new.faults result }
+        ensures exact { (result ≡ Ok tt) × (self.new ≡ self.old) }
+    {
+        Ok(())
     }
 }

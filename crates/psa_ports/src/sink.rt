@@ -1,6 +1,6 @@
-ghost use Rattle.std.specs.Prelude.{◌<◌, ℕ, List, Option, IfOk, OnOk, length};
+ghost use Rattle.std.specs.Prelude.{◌≡◌, ◌<◌, ℕ, List, [], Option, IfOk, OnOk, length};
 ghost use Rattle.std.specs.Io.{WritesAtMost};
-ghost use Rattle.std.specs.Io.KnownBytes.{Appends, WriteAppends};
+ghost use Rattle.std.specs.Io.KnownBytes.{Appends, Keeps, WriteAppends};
 ghost use Rattle.psa_ports.specs.Counts.{HasCause};
 ghost use Rattle.psa_ports.specs.Sink.{AppendsPrefix};
 
@@ -9,12 +9,14 @@ use crate::Failed;
 /// What takes bytes, piece by piece.
 ///
 /// A sink has these meanings. `written`: the bytes that it has taken, where they are told.
-/// `faults`: a count of faults that never falls, held at 2^64 - 1. What is not told, no clause
-/// speaks of.
+/// `faults`: a count of faults that never falls, held at 2^64 - 1. `waiting`: those of the bytes taken
+/// that are kept back until `flush`. What is not told, no clause speaks of.
 pub trait Sink {
     ghost written: { Self → Option (List ℕ) };
 
     ghost faults: { Self → ℕ };
+
+    ghost waiting: { Self → List ℕ };
 
     /// Takes the first bytes of `piece`, at least one, and answers their number.
     /// Refuses, with `written` unchanged, only where `faults` rose in this call.
@@ -24,6 +26,13 @@ pub trait Sink {
         ensures least { IfOk result (λ count. 0 < count) }
         ensures most { WritesAtMost result piece.now }
         ensures bytes { WriteAppends (written self.old) (written self.new) result piece.now }
+        ensures cause { HasCause (faults self.old) (faults self.new) result };
+
+    /// Passes on what was kept back, so that nothing waits. Refuses only where `faults` rose in this call;
+    /// what was taken stays taken.
+    fn flush(&mut self) -> Result<(), Failed>
+        ensures kept { Keeps (written self.old) (written self.new) }
+        ensures passed { OnOk result (waiting self.new ≡ []) }
         ensures cause { HasCause (faults self.old) (faults self.new) result };
 }
 
