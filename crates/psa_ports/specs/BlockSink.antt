@@ -1,5 +1,5 @@
 -- A sink that passes its bytes on in blocks. This project's own.
-use Rattle.std.specs.Prelude.{ℕ, List, ◌++◌, Option}
+use Rattle.std.specs.Prelude.{ℕ, List, Option}
 use Rattle.std.specs.Io.KnownBytes.{append_known}
 
 -- what callers see of it: the sink to which it passes its bytes on, the bytes that wait, and how many more the block
