@@ -1,0 +1,4 @@
+pub mod ListLemmas
+pub mod IndexLemmas
+pub mod RankLemmas
+pub mod WalkLemmas
