@@ -1,0 +1,15 @@
+mod ElementForms
+mod Totals
+mod ContentForms
+mod Weights
+mod RowWeights
+mod ElementWeights
+mod PlacesApart
+mod Places
+mod Containers
+mod RowKinds
+mod RowCounts
+mod Fits
+mod RowShapes
+mod ElementShapes
+mod DraftPromise
