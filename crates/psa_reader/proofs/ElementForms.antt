@@ -10,8 +10,10 @@ use Rattle.psa_elements.specs.ElementTable.{Row}
 use Rattle.psa_elements.specs.DraftReading.{ElementReading, reading_layer, element_reading, Surroundings, StartTag, Reading, reading_of, children_readings, surroundings_inside}
 
 -- what holds of an element where it holds of each element directly in it holds of all elements
-pub element-induction : (P : Element → Type 0) → ((x : Element-F Element) → AllByRecursion P x.children → P (roll-Element x)) → (e : Element) → P e
-element-induction P step = ind-Element P (λ x y is. step x (subst (λ z. AllByRecursion P z.children) is (each y.children)))
+pub element-induction : (P : Element → Type 0)
+    → ((x : Element-F Element) → AllByRecursion P x.children → P (roll-Element x)) → (e : Element) → P e
+element-induction P step =
+    ind-Element P (λ x y is. step x (subst (λ z. AllByRecursion P z.children) is (each y.children)))
   where
     each : (es : List ((e : Element) × P e)) → AllByRecursion P (map (λ e. e.0) es)
     each [] = tt
@@ -23,7 +25,9 @@ depth-at x = fold-roll-Element ℕ depth_step x
 pub elements-at : (x : Element-F Element) → elements_in (roll-Element x) ≡ 1 + sum (map elements_in x.children)
 elements-at x = fold-roll-Element ℕ elements_step x
 
-pub size-at : (x : Element-F Element) → (element_reading (roll-Element x)).size ≡ suc (sum (map (λ (child : ElementReading). child.size) (map element_reading x.children)))
+pub size-at : (x : Element-F Element)
+    → (element_reading (roll-Element x)).size ≡ suc
+    (sum (map (λ (child : ElementReading). child.size) (map element_reading x.children)))
 size-at x = ap (λ (r : ElementReading). r.size) (fold-roll-Element ElementReading reading_layer x)
 
 -- an element as it begins
@@ -32,8 +36,11 @@ start_of x around number = record { around = around; line = x.line; number = num
 
 abbrev pub inside_of : Element-F Element → Row → Surroundings → ℕ → List Reading
 inside_of x row around number =
-    children_readings row (surroundings_inside row (start_of x around number)) (suc number) (map element_reading x.children)
+    children_readings row (surroundings_inside row (start_of x around number)) (suc number)
+    (map element_reading x.children)
 
 pub reading-at : (x : Element-F Element) (row : Row) (around : Surroundings) (number : ℕ)
-    → (element_reading (roll-Element x)).reading row around number ≡ reading_of row (start_of x around number) (inside_of x row around number)
-reading-at x row around number = ap (λ (r : ElementReading). r.reading row around number) (fold-roll-Element ElementReading reading_layer x)
+    → (element_reading (roll-Element x)).reading row around number ≡ reading_of row (start_of x around number)
+    (inside_of x row around number)
+reading-at x row around number =
+    ap (λ (r : ElementReading). r.reading row around number) (fold-roll-Element ElementReading reading_layer x)

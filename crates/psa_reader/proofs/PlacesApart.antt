@@ -27,7 +27,8 @@ one_if-one false = omega arith
 
 -- ---- the definitions of all files
 
-definitions-weigh : (w : Weights) (levels : ℕ) (r : Reading) → total (definition_weight w) (definitions_of r) ≤ weigh w levels r
+definitions-weigh : (w : Weights) (levels : ℕ) (r : Reading)
+    → total (definition_weight w) (definitions_of r) ≤ weigh w levels r
 definitions-weigh w levels (some_definitions ds) = omega arith
 definitions-weigh w levels _ = omega arith
 
@@ -42,25 +43,29 @@ files-weigh w law file [] = omega arith
 files-weigh w law file (root ∷ roots) =
     omega (
       arith,
-      total-append (definition_weight w) (file_definitions (file, root)) (flat_map file_definitions (enumerate_from (file + 1) roots)),
+      total-append (definition_weight w) (file_definitions (file, root))
+          (flat_map file_definitions (enumerate_from (file + 1) roots)),
       definitions-weigh w 0 ((element_reading root).reading opsa_mef (whole_file file) 0),
       element-weight w law root opsa_mef (whole_file file) 0 0,
       files-weigh w law (file + 1) roots,
     )
 
 contents-weigh : (w : Weights) → AreWeights w → (ds : List DraftDefinition)
-    → weight w (together (map (λ definition. body_contents definition.body) ds)) ≡ total (λ (d : DraftDefinition). weight w (body_contents d.body)) ds
+    → weight w (together (map (λ definition. body_contents definition.body) ds)) ≡ total
+    (λ (d : DraftDefinition). weight w (body_contents d.body)) ds
 contents-weigh w law ds =
     weight-together w law (map (λ (definition : DraftDefinition). body_contents definition.body) ds)
     ∙ total-map (weight w) (λ (definition : DraftDefinition). body_contents definition.body) ds
 
 -- ---- positions that are apart
 
-none-same : (p : Position) (ps : List Position) → total (λ q. one_if (same_position p q)) ps ≡ 0 → list_any (same_position p) ps ≡ false
+none-same : (p : Position) (ps : List Position) → total (λ q. one_if (same_position p q)) ps ≡ 0
+    → list_any (same_position p) ps ≡ false
 none-same p [] h = refl
 none-same p (q ∷ qs) h = by_test (same_position p q) refl (λ k. none-same p qs k)
   where
-    by_test : (b : Bool) → same_position p q ≡ b → (total (λ q. one_if (same_position p q)) qs ≡ 0 → list_any (same_position p) qs ≡ false)
+    by_test : (b : Bool) → same_position p q ≡ b
+        → (total (λ q. one_if (same_position p q)) qs ≡ 0 → list_any (same_position p) qs ≡ false)
         → list_any (same_position p) (q ∷ qs) ≡ false
     by_test true e rest = absurd (omega (arith, h, ap one_if e))
     by_test false e rest = rw e (rest (omega (arith, h)))
@@ -69,7 +74,8 @@ same-itself : (p : Position) → same_position p p ≡ true
 same-itself p = rw (eq-eqb p.file p.file refl, eq-eqb p.tag p.tag refl) refl
 
 -- positions of which none stands twice are apart
-pub apart-by-count : (ps : List Position) → ((p : Position) → total (λ q. one_if (same_position p q)) ps ≤ 1) → are_apart ps ≡ true
+pub apart-by-count : (ps : List Position) → ((p : Position) → total (λ q. one_if (same_position p q)) ps ≤ 1)
+    → are_apart ps ≡ true
 apart-by-count [] h = refl
 apart-by-count (p ∷ ps) h =
     let here : total (λ q. one_if (same_position p q)) ps ≡ 0 = omega (arith, h p, ap one_if (same-itself p)) in
@@ -92,7 +98,8 @@ other-number p file number apart = by_file (p.file == file)
 
 none-other : (p : Position) (file from count : ℕ) → (p.file ≡ file → ⊥) → span (spot p file) from count ≡ 0
 none-other p file from zero apart = refl
-none-other p file from (suc count) apart = omega (arith, other-file p file from apart, none-other p file (suc from) count apart)
+none-other p file from (suc count) apart =
+    omega (arith, other-file p file from apart, none-other p file (suc from) count apart)
 
 none-past : (p : Position) (file from count : ℕ) → p.tag < from → span (spot p file) from count ≡ 0
 none-past p file from zero past = refl
@@ -103,7 +110,12 @@ none-past p file from (suc count) past =
 once : (p : Position) (file from count : ℕ) → span (spot p file) from count ≤ 1
 once p file from zero = omega arith
 once p file from (suc count) = elim (cases_eq p.tag from) [
-  | inl same ↦ omega (arith, one_if-one (same_position p (record { file = file; tag = from })), none-past p file (suc from) count (omega (arith, same)))
+  | inl same ↦ omega (
+    arith,
+    one_if-one (same_position p (record { file = file; tag = from })),
+    none-past p file
+        (suc from) count (omega (arith, same)),
+  )
   | inr other ↦ omega (arith, other-number p file from other, once p file (suc from) count)
 ]
 
@@ -148,27 +160,49 @@ definition_law p = record {
   defines = λ q. omega arith;
 }
 
-passed : (p : Position) (w : Weights) → ((q : Position) → w.own q ≡ one_if (same_position p q)) → (file from count : ℕ) → span (own_at w file) from count ≡ span (spot p file) from count
+passed : (p : Position) (w : Weights) → ((q : Position) → w.own q ≡ one_if (same_position p q)) → (file from count : ℕ)
+    → span (own_at w file) from count ≡ span (spot p file) from count
 passed p w same file from zero = refl
-passed p w same file from (suc count) = omega (arith, same (record { file = file; tag = from }), passed p w same file (suc from) count)
+passed p w same file from (suc count) =
+    omega (arith, same (record { file = file; tag = from }), passed p w same file (suc from) count)
 
-none-before : (p : Position) (w : Weights) → ((q : Position) → w.own q ≡ one_if (same_position p q)) → (file : ℕ) (roots : List Element) → p.file < file → file_spans w file roots ≡ 0
+none-before : (p : Position) (w : Weights) → ((q : Position) → w.own q ≡ one_if (same_position p q))
+    → (file : ℕ) (roots : List Element) → p.file < file → file_spans w file roots ≡ 0
 none-before p w same file [] before = refl
 none-before p w same file (root ∷ roots) before =
     let apart : p.file ≡ file → ⊥ = λ e. omega (arith, e, before) in
-    omega (arith, passed p w same file 0 (size_of root), none-other p file 0 (size_of root) apart, none-before p w same (file + 1) roots (omega (arith, before)))
+    omega (
+      arith,
+      passed p w same file 0 (size_of root),
+      none-other p file 0 (size_of root) apart,
+      none-before p w same
+          (file + 1) roots (omega (arith, before)),
+    )
 
-once-in-files : (p : Position) (w : Weights) → ((q : Position) → w.own q ≡ one_if (same_position p q)) → (file : ℕ) (roots : List Element) → file_spans w file roots ≤ 1
+once-in-files : (p : Position) (w : Weights) → ((q : Position) → w.own q ≡ one_if (same_position p q))
+    → (file : ℕ) (roots : List Element) → file_spans w file roots ≤ 1
 once-in-files p w same file [] = omega arith
 once-in-files p w same file (root ∷ roots) = elim (cases_eq p.file file) [
   | inl here ↦
-      omega (arith, passed p w same file 0 (size_of root), once p file 0 (size_of root), none-before p w same (file + 1) roots (omega (arith, here)))
+      omega (
+        arith,
+        passed p w same file 0 (size_of root),
+        once p file 0 (size_of root),
+        none-before p w same
+            (file + 1) roots (omega (arith, here)),
+      )
   | inr other ↦
-      omega (arith, passed p w same file 0 (size_of root), none-other p file 0 (size_of root) other, once-in-files p w same (file + 1) roots)
+      omega (
+        arith,
+        passed p w same file 0 (size_of root),
+        none-other p file 0 (size_of root) other,
+        once-in-files p w same (file + 1) roots,
+      )
 ]
 
 -- No two references of a draft have one position.
-pub references-apart : (roots : List Element) → are_apart (map reference_position (contents_of (draft_of roots)).references) ≡ true
+pub references-apart : (roots : List Element)
+    → are_apart (map reference_position (contents_of (draft_of roots)).references) ≡ true
 references-apart roots = apart-by-count (map reference_position (contents_of (draft_of roots)).references) (λ p.
     let w = reference_weights p in
     let ds = (draft_of roots).definitions in
@@ -182,8 +216,10 @@ references-apart roots = apart-by-count (map reference_position (contents_of (dr
     ))
 
 -- No two definitions and paths of a draft have one position.
-pub definitions-apart : (roots : List Element) → are_apart (map position_of (draft_of roots).definitions ++ (contents_of (draft_of roots)).paths) ≡ true
-definitions-apart roots = apart-by-count (map position_of (draft_of roots).definitions ++ (contents_of (draft_of roots)).paths) (λ p.
+pub definitions-apart : (roots : List Element)
+    → are_apart (map position_of (draft_of roots).definitions ++ (contents_of (draft_of roots)).paths) ≡ true
+definitions-apart roots =
+    apart-by-count (map position_of (draft_of roots).definitions ++ (contents_of (draft_of roots)).paths) (λ p.
     let w = definition_weights p in
     let ds = (draft_of roots).definitions in
     omega (
@@ -197,7 +233,8 @@ definitions-apart roots = apart-by-count (map position_of (draft_of roots).defin
     ))
   where
     parts : (p : Position) (ds : List DraftDefinition)
-        → total (λ (d : DraftDefinition). one_if (same_position p (position_of d))) ds + total (λ (d : DraftDefinition). weight (definition_weights p) (body_contents d.body)) ds
+        → total (λ (d : DraftDefinition). one_if (same_position p (position_of d))) ds + total
+        (λ (d : DraftDefinition). weight (definition_weights p) (body_contents d.body)) ds
         ≤ total (definition_weight (definition_weights p)) ds
     parts p [] = omega arith
     parts p (d ∷ ds) = omega (arith, parts p ds)
@@ -211,7 +248,13 @@ total-each f g (x ∷ xs) all = omega (arith, all.0, total-each f g xs all.1)
 -- each element is counted once
 pub size-is-elements : (e : Element) → size_of e ≡ elements_in e
 size-is-elements = element-induction (λ e. size_of e ≡ elements_in e) (λ x all.
-    omega (arith, size-is x, elements-at x, total-sum elements_in x.children, total-each size_of elements_in x.children all))
+    omega (
+      arith,
+      size-is x,
+      elements-at x,
+      total-sum elements_in x.children,
+      total-each size_of elements_in x.children all,
+    ))
 
 abbrev size_weights : Weights
 size_weights = record {
@@ -237,10 +280,18 @@ span-ones : (file from count : ℕ) → span (own_at size_weights file) from cou
 span-ones file from zero = refl
 span-ones file from (suc count) = omega (arith, span-ones file (suc from) count)
 
-files-size : (most file : ℕ) (roots : List Element) → AllByRecursion (λ root. elements_in root ≤ most) roots → file_spans size_weights file roots ≤ most * length roots
+files-size : (most file : ℕ) (roots : List Element) → AllByRecursion (λ root. elements_in root ≤ most) roots
+    → file_spans size_weights file roots ≤ most * length roots
 files-size most file [] all = omega arith
 files-size most file (root ∷ roots) all =
-    omega (arith, span-ones file 0 (size_of root), size-is-elements root, all.0, files-size most (file + 1) roots all.1, product most (length roots))
+    omega (
+      arith,
+      span-ones file 0 (size_of root),
+      size-is-elements root,
+      all.0,
+      files-size most (file + 1) roots all.1,
+      product most (length roots),
+    )
   where
     product : (m n : ℕ) → m * suc n ≡ m + m * n
     product m n = omega arith
@@ -260,7 +311,8 @@ member-ones (body.Steps i l) = refl
 member-ones (body.Walk b) = refl
 
 -- A draft has at most as many definitions, members and collected formulas as elements.
-pub draft-few : (most : ℕ) (roots : List Element) → AllByRecursion (λ root. elements_in root ≤ most) roots → draft_size (draft_of roots) ≤ most * length roots
+pub draft-few : (most : ℕ) (roots : List Element) → AllByRecursion (λ root. elements_in root ≤ most) roots
+    → draft_size (draft_of roots) ≤ most * length roots
 draft-few most roots all =
     let ds = (draft_of roots).definitions in
     omega (
@@ -281,7 +333,8 @@ draft-few most roots all =
     formulas-weigh c = omega (arith, zeros c.references, zeros c.paths)
 
     parts : (ds : List DraftDefinition)
-        → length ds + total (λ (d : DraftDefinition). member_count d.body) ds + total (λ (d : DraftDefinition). weight size_weights (body_contents d.body)) ds
+        → length ds + total (λ (d : DraftDefinition). member_count d.body) ds + total
+        (λ (d : DraftDefinition). weight size_weights (body_contents d.body)) ds
         ≤ total (definition_weight size_weights) ds
     parts [] = omega arith
     parts (d ∷ ds) = omega (arith, parts ds, member-ones d.body)

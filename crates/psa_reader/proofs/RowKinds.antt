@@ -127,27 +127,34 @@ same-answers false true h = cc
 same-answers false false h = refl
 
 -- Where a test of tags tells the rows of a kind inside a row, as many children pass it as say something of the kind.
-pub tags-said : (parent : Row) (kind : Kind) (test : Text → Bool) → list_all (λ row. same_answer (test (tag_of row)) (same_kind kind (kind_of_row row))) (rows_inside parent) ≡ true
-    → (tags : List Text) (inside : List Reading) → AreRead parent tags inside → total (λ tag. one_if (test tag)) tags ≡ said kind inside
+pub tags-said : (parent : Row) (kind : Kind) (test : Text → Bool)
+    → list_all (λ row. same_answer (test (tag_of row)) (same_kind kind (kind_of_row row))) (rows_inside parent) ≡ true
+    → (tags : List Text) (inside : List Reading) → AreRead parent tags inside → total (λ tag. one_if (test tag)) tags
+    ≡ said kind inside
 tags-said parent kind test tells [] [] are = refl
 tags-said parent kind test tells [] (r ∷ inside) are = absurd are
 tags-said parent kind test tells (tag ∷ tags) [] are = absurd are
 tags-said parent kind test tells (tag ∷ tags) (r ∷ inside) are =
     let is = are.0 in
     let here : test (tag_of is.row) ≡ same_kind kind (kind_of_row is.row) =
-    same-answers (test (tag_of is.row)) (same_kind kind (kind_of_row is.row)) (is.among (λ row. same_answer (test (tag_of row)) (same_kind kind (kind_of_row row))) tells) in
+    same-answers (test (tag_of is.row)) (same_kind kind (kind_of_row is.row))
+    (is.among (λ row. same_answer (test (tag_of row)) (same_kind kind (kind_of_row row))) tells) in
     let told : test tag ≡ same_kind kind (kind_of r) =
     ap test (sym is.tagged) ∙ here ∙ ap (same_kind kind) (sym is.kind) in
     omega (arith, ap one_if told, tags-said parent kind test tells tags inside are.1)
 
-pub count-filtered : (test keep : Text → Bool) (tags : List Text) → count_by test (filter keep tags) ≡ total (λ tag. one_if (test tag && keep tag)) tags
+pub count-filtered : (test keep : Text → Bool) (tags : List Text)
+    → count_by test (filter keep tags) ≡ total (λ tag. one_if (test tag && keep tag)) tags
 count-filtered test keep [] = refl
 count-filtered test keep (tag ∷ tags) = by_tests (keep tag) (test tag) refl refl (count-filtered test keep tags)
   where
-    by_tests : (k t : Bool) → keep tag ≡ k → test tag ≡ t → count_by test (filter keep tags) ≡ total (λ tag. one_if (test tag && keep tag)) tags
+    by_tests : (k t : Bool) → keep tag ≡ k → test tag ≡ t
+        → count_by test (filter keep tags) ≡ total (λ tag. one_if (test tag && keep tag)) tags
         → count_by test (filter keep (tag ∷ tags)) ≡ total (λ tag. one_if (test tag && keep tag)) (tag ∷ tags)
-    by_tests true true e f rest = rw (e, f) (sum_by-cons (λ x. cond (test x) 1 0) tag (filter keep tags) ∙ rw f (ap (λ n. 1 + n) rest))
-    by_tests true false e f rest = rw (e, f) (sum_by-cons (λ x. cond (test x) 1 0) tag (filter keep tags) ∙ rw f (ap (λ n. 0 + n) rest))
+    by_tests true true e f rest =
+        rw (e, f) (sum_by-cons (λ x. cond (test x) 1 0) tag (filter keep tags) ∙ rw f (ap (λ n. 1 + n) rest))
+    by_tests true false e f rest =
+        rw (e, f) (sum_by-cons (λ x. cond (test x) 1 0) tag (filter keep tags) ∙ rw f (ap (λ n. 0 + n) rest))
     by_tests false true e f rest = rw (e, f) (rest ∙ left_zero _)
       where
         left_zero : (n : ℕ) → n ≡ 0 + n
@@ -157,7 +164,8 @@ count-filtered test keep (tag ∷ tags) = by_tests (keep tag) (test tag) refl re
         left_zero : (n : ℕ) → n ≡ 0 + n
         left_zero n = omega arith
 
-pub length-filtered : (keep : Text → Bool) (tags : List Text) → length (filter keep tags) ≡ total (λ tag. one_if (keep tag)) tags
+pub length-filtered : (keep : Text → Bool) (tags : List Text)
+    → length (filter keep tags) ≡ total (λ tag. one_if (keep tag)) tags
 length-filtered keep [] = refl
 length-filtered keep (tag ∷ tags) = by_test (keep tag) refl (length-filtered keep tags)
   where

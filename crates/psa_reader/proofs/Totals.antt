@@ -34,12 +34,14 @@ total-add f g [] = refl
 total-add f g (x ∷ xs) = omega (arith, total-add f g xs)
 
 -- the total over what stands in each of some lists
-pub total-flat_map : {A B : Type 0} (f : B → ℕ) (g : A → List B) (xs : List A) → total f (flat_map g xs) ≡ total (λ x. total f (g x)) xs
+pub total-flat_map : {A B : Type 0} (f : B → ℕ) (g : A → List B) (xs : List A)
+    → total f (flat_map g xs) ≡ total (λ x. total f (g x)) xs
 total-flat_map f g [] = refl
 total-flat_map f g (x ∷ xs) = omega (arith, total-append f (g x) (flat_map g xs), total-flat_map f g xs)
 
 -- the first of a list, or a default, has no more than a bound of both
-pub first-le : {A : Type 0} (f : A → ℕ) (default : A) (xs : List A) (bound : ℕ) → f default ≤ bound → total f xs ≤ bound → f (unwrap_or (slice_get xs 0) default) ≤ bound
+pub first-le : {A : Type 0} (f : A → ℕ) (default : A) (xs : List A) (bound : ℕ) → f default ≤ bound → total f xs ≤ bound
+    → f (unwrap_or (slice_get xs 0) default) ≤ bound
 first-le f default [] bound d h = d
 first-le f default (x ∷ xs) bound d h = omega (arith, h)
 
@@ -61,7 +63,9 @@ span-add f from zero b = rw (left_zero b, right_zero from) (omega arith)
     right_zero : (n : ℕ) → n + 0 ≡ n
     right_zero n = omega arith
 span-add f from (suc a) b =
-    ap (span f from) (up a b) ∙ ap (λ n. f from + n) (span-add f (suc from) a b ∙ ap (λ m. span f (suc from) a + span f m b) (over from a)) ∙ joined (f from) (span f (suc from) a) (span f (from + suc a) b)
+    ap (span f from) (up a b) ∙ ap (λ n. f from + n)
+    (span-add f (suc from) a b ∙ ap (λ m. span f (suc from) a + span f m b) (over from a)) ∙ joined (f from)
+    (span f (suc from) a) (span f (from + suc a) b)
   where
     up : (m n : ℕ) → suc m + n ≡ suc (m + n)
     up m n = omega arith

@@ -57,14 +57,26 @@ weight w c = total (refer w) c.references + total w.path c.paths + w.formulas c.
 pub weight-together : (w : Weights) → AreWeights w → (cs : List Contents) → weight w (together cs) ≡ total (weight w) cs
 weight-together w law [] = omega (arith, law.none)
 weight-together w law (c ∷ cs) =
-    omega (arith, total-append (refer w) c.references (together cs).references, total-append w.path c.paths (together cs).paths, law.more c.formulas (together cs).formulas, weight-together w law cs)
+    omega (
+      arith,
+      total-append (refer w) c.references (together cs).references,
+      total-append w.path c.paths
+          (together cs).paths,
+      law.more c.formulas (together cs).formulas,
+      weight-together w law cs,
+    )
 
 pub weight-element : (w : Weights) → AreWeights w → (has : Bool) (name : Option DraftReference) (inside : List Contents)
     → weight w (element has name inside) ≡ total (refer w) (option_to_list name) + total (weight w) inside
 weight-element w law has name inside =
-    omega (arith, total-append (refer w) (option_to_list name) (together inside).references, weight-together w law inside)
+    omega (
+      arith,
+      total-append (refer w) (option_to_list name) (together inside).references,
+      weight-together w law inside,
+    )
 
-pub weight-one : (w : Weights) → AreWeights w → (has : Bool) (name : DraftReference) → weight w (element has (Some name) []) ≡ refer w name
+pub weight-one : (w : Weights) → AreWeights w → (has : Bool) (name : DraftReference)
+    → weight w (element has (Some name) []) ≡ refer w name
 weight-one w law has name = omega (arith, weight-element w law has (Some name) [])
 
 pub weight-none : (w : Weights) → AreWeights w → (has : Bool) → weight w (element has None []) ≡ 0
@@ -73,15 +85,18 @@ weight-none w law has = omega (arith, weight-element w law has None [])
 -- elements around others weigh what these do
 pub weight-around : {A : Type 0} (w : Weights) → AreWeights w → (has : Bool) (f : A → Contents) (inside : List A)
     → weight w (element has None (map f inside)) ≡ total (λ x. weight w (f x)) inside
-weight-around w law has f inside = omega (arith, weight-element w law has None (map f inside), total-map (weight w) f inside)
+weight-around w law has f inside =
+    omega (arith, weight-element w law has None (map f inside), total-map (weight w) f inside)
 
-pub weight-name : (w : Weights) → AreWeights w → (name : Option DraftReference) → weight w (some_reference name) ≡ total (refer w) (option_to_list name)
+pub weight-name : (w : Weights) → AreWeights w → (name : Option DraftReference)
+    → weight w (some_reference name) ≡ total (refer w) (option_to_list name)
 weight-name w law name = omega (arith, law.none)
 
 -- ---- the weight of what an element says, in branches of at most so many levels
 
 abbrev pub formula_weight : Weights → DraftFormula → ℕ
-formula_weight w f = weight w (formula_contents f) + total (λ (r : DraftReference). w.member) (references_of (out-DraftFormula f))
+formula_weight w f =
+    weight w (formula_contents f) + total (λ (r : DraftReference). w.member) (references_of (out-DraftFormula f))
 
 abbrev pub expression_weight : Weights → DraftExpression → ℕ
 expression_weight w e = weight w (expression_contents e)
@@ -112,7 +127,9 @@ members_in (body.Group group) = group.members
 members_in _ = []
 
 abbrev pub definition_weight : Weights → DraftDefinition → ℕ
-definition_weight w d = w.definition (position_of d) + total (λ (r : DraftReference). w.member) (members_in d.body) + weight w (body_contents d.body)
+definition_weight w d =
+    w.definition (position_of d) + total (λ (r : DraftReference). w.member) (members_in d.body) + weight w
+    (body_contents d.body)
 
 abbrev pub weigh : Weights → ℕ → Reading → ℕ
 weigh w levels nothing = 0
@@ -132,37 +149,56 @@ weigh w levels (some_definitions ds) = total (definition_weight w) ds
 -- the weights of all that the children say, by what it is
 pub record Shares (w : Weights) (levels : ℕ) (inside : List Reading) (bound : ℕ) : Type 0 where
   pub fit : total (formula_weight w) (filter_map formula_of inside) + total (expression_weight w) (filter_map expression_of inside)
-      + total (test_weight w) (filter_map test_of inside) + total (instruction_weight w) (filter_map instruction_of inside)
-      + total (end_weight w levels) (filter_map end_of inside) + total (path_weight w levels) (filter_map path_of inside)
+      + total (test_weight w) (filter_map test_of inside) + total (instruction_weight w)
+      (filter_map instruction_of inside)
+      + total (end_weight w levels) (filter_map end_of inside) + total (path_weight w levels)
+      (filter_map path_of inside)
       + total (state_weight w levels) (filter_map initial_state_of inside) + total (refer w) (filter_map link_of inside)
-      + total (member_weight w) (flat_map members_of inside) + total (expression_weight w) (filter_map distribution_of inside)
-      + total (factor_weight w) (flat_map factors_of inside) + total (definition_weight w) (flat_map definitions_of inside) ≤ bound
+      + total (member_weight w) (flat_map members_of inside) + total (expression_weight w)
+      (filter_map distribution_of inside)
+      + total (factor_weight w) (flat_map factors_of inside) + total (definition_weight w)
+      (flat_map definitions_of inside) ≤ bound
 
 shared : (w : Weights) (levels : ℕ) (inside : List Reading) → Shares w levels inside (total (weigh w levels) inside)
 shared w levels [] = record { fit = omega arith }
 shared w levels (nothing ∷ inside) = let rest = shared w levels inside in record { fit = omega (arith, rest.fit) }
 shared w levels (a_formula f ∷ inside) = let rest = shared w levels inside in record { fit = omega (arith, rest.fit) }
-shared w levels (an_expression e ∷ inside) = let rest = shared w levels inside in record { fit = omega (arith, rest.fit) }
+shared w levels (an_expression e ∷ inside) = let rest =
+    shared w levels inside in record { fit = omega (arith, rest.fit) }
 shared w levels (a_test t ∷ inside) = let rest = shared w levels inside in record { fit = omega (arith, rest.fit) }
-shared w levels (an_instruction i ∷ inside) = let rest = shared w levels inside in record { fit = omega (arith, rest.fit) }
+shared w levels (an_instruction i ∷ inside) = let rest =
+    shared w levels inside in record { fit = omega (arith, rest.fit) }
 shared w levels (an_end e ∷ inside) = let rest = shared w levels inside in record { fit = omega (arith, rest.fit) }
 shared w levels (a_path p ∷ inside) = let rest = shared w levels inside in record { fit = omega (arith, rest.fit) }
-shared w levels (an_initial_state b ∷ inside) = let rest = shared w levels inside in record { fit = omega (arith, rest.fit) }
+shared w levels (an_initial_state b ∷ inside) = let rest =
+    shared w levels inside in record { fit = omega (arith, rest.fit) }
 shared w levels (a_link r ∷ inside) = let rest = shared w levels inside in record { fit = omega (arith, rest.fit) }
 shared w levels (some_members rs ∷ inside) =
-    let rest = shared w levels inside in record { fit = omega (arith, rest.fit, total-append (member_weight w) rs (flat_map members_of inside)) }
-shared w levels (a_distribution e ∷ inside) = let rest = shared w levels inside in record { fit = omega (arith, rest.fit) }
+    let rest = shared w levels inside in record {
+      fit = omega
+          (arith, rest.fit, total-append (member_weight w) rs (flat_map members_of inside));
+    }
+shared w levels (a_distribution e ∷ inside) = let rest =
+    shared w levels inside in record { fit = omega (arith, rest.fit) }
 shared w levels (some_factors fs ∷ inside) =
-    let rest = shared w levels inside in record { fit = omega (arith, rest.fit, total-append (factor_weight w) fs (flat_map factors_of inside)) }
+    let rest = shared w levels inside in record {
+      fit = omega
+          (arith, rest.fit, total-append (factor_weight w) fs (flat_map factors_of inside));
+    }
 shared w levels (some_definitions ds ∷ inside) =
-    let rest = shared w levels inside in record { fit = omega (arith, rest.fit, total-append (definition_weight w) ds (flat_map definitions_of inside)) }
+    let rest = shared w levels inside in record {
+      fit = omega
+          (arith, rest.fit, total-append (definition_weight w) ds (flat_map definitions_of inside));
+    }
 
-pub shares : (w : Weights) (levels : ℕ) (inside : List Reading) (bound : ℕ) → total (weigh w levels) inside ≤ bound → Shares w levels inside bound
+pub shares : (w : Weights) (levels : ℕ) (inside : List Reading) (bound : ℕ) → total (weigh w levels) inside ≤ bound
+    → Shares w levels inside bound
 shares w levels inside bound h = let all = shared w levels inside in record { fit = omega (arith, all.fit, h) }
 
 -- ---- formulas
 
-pub event-weight : (w : Weights) → AreWeights w → (its : EventKind) (name : DraftReference) → formula_weight w (formula.Event its name) ≡ refer w name + w.member
+pub event-weight : (w : Weights) → AreWeights w → (its : EventKind) (name : DraftReference)
+    → formula_weight w (formula.Event its name) ≡ refer w name + w.member
 event-weight w law its name =
     omega (
       arith,
@@ -192,11 +228,15 @@ connective-weight w law c least most inside =
     )
 
 -- as members, events weigh what they do as formulas
-pub members-weight : (w : Weights) → AreWeights w → (f : DraftFormula) → total (member_weight w) (references_of (out-DraftFormula f)) ≤ formula_weight w f
+pub members-weight : (w : Weights) → AreWeights w → (f : DraftFormula)
+    → total (member_weight w) (references_of (out-DraftFormula f)) ≤ formula_weight w f
 members-weight w law f = by_form (out-DraftFormula f) (ap (weight w) (formula-opened f))
   where
-    by_form : (x : DraftFormula-F DraftFormula) → weight w (formula_contents f) ≡ weight w (formula_step (map-DraftFormula DraftFormula Contents formula_contents x))
-        → total (member_weight w) (references_of x) ≤ weight w (formula_contents f) + total (λ (r : DraftReference). w.member) (references_of x)
+    by_form : (x : DraftFormula-F DraftFormula)
+        → weight w (formula_contents f) ≡ weight w
+        (formula_step (map-DraftFormula DraftFormula Contents formula_contents x))
+        → total (member_weight w) (references_of x) ≤ weight w (formula_contents f) + total
+        (λ (r : DraftReference). w.member) (references_of x)
     by_form (DraftFormula-F.Event its name) e = omega (arith, e, weight-one w law true name)
     by_form (DraftFormula-F.Constant state) e = omega arith
     by_form (DraftFormula-F.Connective c least most inside) e = omega arith
