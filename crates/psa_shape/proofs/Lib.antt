@@ -1,0 +1,6 @@
+mod RowLemmas
+mod ValueLemmas
+mod AttributeLemmas
+mod ContentLemmas
+mod BoundLemmas
+mod FaultLemmas

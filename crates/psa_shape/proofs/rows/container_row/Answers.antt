@@ -1,0 +1,8 @@
+use Rattle.std.proofs.Common.{sym}
+use Rattle.psa_shape.specs.TableRows.{rows_of}
+use Rattle.psa_shape.specs.declared.rows.Rows.TheVariants.{InContainer}
+use Rattle.psa_shape.proofs.RowLemmas.{find-none}
+use Rattle.psa_shape.proofs.rows.container_row.Goals as goal
+
+pub returns-in_default : goal.returns-in_default
+returns-in_default c = sym (find-none c.args.tag.now (rows_of InContainer) (assumption c.in_default))
