@@ -1,5 +1,5 @@
-mod ChainLemmas
-mod ShortChains
+pub mod ChainLemmas
+pub mod ShortChains
 pub mod Forms
 pub mod Entries
 pub mod Computed

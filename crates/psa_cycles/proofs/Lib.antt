@@ -1,0 +1,9 @@
+pub mod AddedElements
+pub mod RoomInside
+pub mod BodyForms
+pub mod ReferenceRows
+pub mod GraphRows
+pub mod SameChains
+pub mod ElementDepths
+pub mod FirstFaults
+pub mod ChainFaults
