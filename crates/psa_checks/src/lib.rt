@@ -1,0 +1,6 @@
+//! The model of a draft without a fault of names, or the first fault of names.
+#![tactic(auto)]
+
+mod laws;
+
+pub use laws::models_keep_their_promise;
