@@ -32,12 +32,14 @@ use Rattle.psa_checks.proofs.Standing.{IsEntry, AreEntries}
 abbrev pub pick : {A : Type 0} → Bool → Bool → A → List A → List A
 pick b c x ys = if b then x ∷ [] else if c then ys else []
 
-map-pick : {A B : Type 0} (f : A → B) (b c : Bool) (x : A) (ys : List A) → map f (pick b c x ys) ≡ pick b c (f x) (map f ys)
+map-pick : {A B : Type 0} (f : A → B) (b c : Bool) (x : A) (ys : List A)
+    → map f (pick b c x ys) ≡ pick b c (f x) (map f ys)
 map-pick f true c x ys = refl
 map-pick f false true x ys = refl
 map-pick f false false x ys = refl
 
-pub pick-cases : {A : Type 0} (b c : Bool) (x : A) (ys : List A) (y : A) → Has (pick b c x ys) y → ((b ≡ true) × (x ≡ y)) ⊎ ((c ≡ true) × Has ys y)
+pub pick-cases : {A : Type 0} (b c : Bool) (x : A) (ys : List A) (y : A) → Has (pick b c x ys) y
+    → ((b ≡ true) × (x ≡ y)) ⊎ ((c ≡ true) × Has ys y)
 pick-cases true c x ys y h = inl (refl, only h.0 h.1)
   where
     only : (i : ℕ) → slice_get (x ∷ []) i ≡ Some y → x ≡ y
@@ -46,11 +48,14 @@ pick-cases true c x ys y h = inl (refl, only h.0 h.1)
 pick-cases false true x ys y h = inr (refl, h)
 pick-cases false false x ys y h = absurd (has-none y h)
 
-pub map-flat : {A B C : Type 0} (f : B → C) (g : A → List B) (xs : List A) → map f (flat_map g xs) ≡ flat_map (λ x. map f (g x)) xs
+pub map-flat : {A B C : Type 0} (f : B → C) (g : A → List B) (xs : List A)
+    → map f (flat_map g xs) ≡ flat_map (λ x. map f (g x)) xs
 map-flat f g [] = refl
-map-flat {A} {B} {C} f g (x ∷ xs) = map-append f (g x) (flat_map g xs) ∙ ap (λ (rest : List C). map f (g x) ++ rest) (map-flat f g xs)
+map-flat {A} {B} {C} f g (x ∷ xs) = map-append f (g x) (flat_map g xs)
+    ∙ ap (λ (rest : List C). map f (g x) ++ rest) (map-flat f g xs)
 
-pub flat-same : {A B : Type 0} (f g : A → List B) → ((x : A) → f x ≡ g x) → (xs : List A) → flat_map f xs ≡ flat_map g xs
+pub flat-same : {A B : Type 0} (f g : A → List B) → ((x : A) → f x ≡ g x) → (xs : List A)
+    → flat_map f xs ≡ flat_map g xs
 flat-same f g same [] = refl
 flat-same {A} {B} f g same (x ∷ xs) = ap₂ (λ (one rest : List B). one ++ rest) (same x) (flat-same f g same xs)
 
@@ -58,7 +63,8 @@ pub map-map : {A B C : Type 0} (f : B → C) (g : A → B) (xs : List A) → map
 map-map f g [] = refl
 map-map {A} {B} {C} f g (x ∷ xs) = ap (λ (rest : List C). f (g x) ∷ rest) (map-map f g xs)
 
-pub flat-numbered : {A B : Type 0} (f : A → List B) (k : ℕ) (xs : List A) → flat_map (λ (one : ℕ × A). f one.1) (enumerate_from k xs) ≡ flat_map f xs
+pub flat-numbered : {A B : Type 0} (f : A → List B) (k : ℕ) (xs : List A)
+    → flat_map (λ (one : ℕ × A). f one.1) (enumerate_from k xs) ≡ flat_map f xs
 flat-numbered f k [] = refl
 flat-numbered {A} {B} f k (x ∷ xs) = ap (λ (rest : List B). f x ++ rest) (flat-numbered f (k + 1) xs)
 
@@ -76,22 +82,31 @@ basic_pairs entries one =
 abbrev pub all_pairs : Entries → List (Meaning × BasicEvent)
 all_pairs entries = flat_map (basic_pairs entries) (enumerate_from 0 entries)
 
-pub pair-meanings : (entries : Entries) → map (λ (pair : Meaning × BasicEvent). pair.0) (all_pairs entries) ≡ all_basics entries
-pair-meanings entries = map-flat _ (basic_pairs entries) (enumerate_from 0 entries) ∙ flat-same _ (basics_at entries) one (enumerate_from 0 entries)
+pub pair-meanings : (entries : Entries)
+    → map (λ (pair : Meaning × BasicEvent). pair.0) (all_pairs entries) ≡ all_basics entries
+pair-meanings entries = map-flat _ (basic_pairs entries) (enumerate_from 0 entries)
+    ∙ flat-same _ (basics_at entries) one (enumerate_from 0 entries)
   where
-    one : (x : ℕ × Entry) → map (λ (pair : Meaning × BasicEvent). pair.0) (basic_pairs entries x) ≡ basics_at entries x
-    one x = map-pick (λ (pair : Meaning × BasicEvent). pair.0) (is_kind kind.BasicEvent x.1) (is_kind kind.Group x.1) _ _
-        ∙ ap (λ (ys : List Meaning). pick (is_kind kind.BasicEvent x.1) (is_kind kind.Group x.1) (definition x.0) ys) (map-map _ _ (defined_by_group entries x.1))
+    one : (x : ℕ × Entry) → map (λ (pair : Meaning × BasicEvent). pair.0) (basic_pairs entries x)
+        ≡ basics_at entries x
+    one x = map-pick (λ (pair : Meaning × BasicEvent). pair.0) (is_kind kind.BasicEvent x.1) (is_kind kind.Group x.1)
+        _ _
+        ∙ ap (λ (ys : List Meaning). pick (is_kind kind.BasicEvent x.1) (is_kind kind.Group x.1) (definition x.0) ys)
+        (map-map _ _ (defined_by_group entries x.1))
 
-pub pair-events : (entries : Entries) → map (λ (pair : Meaning × BasicEvent). pair.1) (all_pairs entries) ≡ flat_map (basics_of entries) entries
+pub pair-events : (entries : Entries)
+    → map (λ (pair : Meaning × BasicEvent). pair.1) (all_pairs entries) ≡ flat_map (basics_of entries) entries
 pair-events entries =
     map-flat _ (basic_pairs entries) (enumerate_from 0 entries)
     ∙ flat-same _ (λ (x : ℕ × Entry). basics_of entries x.1) one (enumerate_from 0 entries)
     ∙ flat-numbered (basics_of entries) 0 entries
   where
-    one : (x : ℕ × Entry) → map (λ (pair : Meaning × BasicEvent). pair.1) (basic_pairs entries x) ≡ basics_of entries x.1
-    one x = map-pick (λ (pair : Meaning × BasicEvent). pair.1) (is_kind kind.BasicEvent x.1) (is_kind kind.Group x.1) _ _
-        ∙ ap (λ (ys : List BasicEvent). pick (is_kind kind.BasicEvent x.1) (is_kind kind.Group x.1) (own_basic entries x.1) ys) (map-map _ _ (defined_by_group entries x.1))
+    one : (x : ℕ × Entry) → map (λ (pair : Meaning × BasicEvent). pair.1) (basic_pairs entries x)
+        ≡ basics_of entries x.1
+    one x = map-pick (λ (pair : Meaning × BasicEvent). pair.1) (is_kind kind.BasicEvent x.1) (is_kind kind.Group x.1)
+        _ _
+        ∙ ap (λ (ys : List BasicEvent). pick (is_kind kind.BasicEvent x.1) (is_kind kind.Group x.1)
+        (own_basic entries x.1) ys) (map-map _ _ (defined_by_group entries x.1))
 
 -- ---- what the pairs are
 
@@ -111,28 +126,49 @@ pub record IsOfGroup (entries : Entries) (pair : Meaning × BasicEvent) : Type 0
   pub defined : Has (defined_by_group entries one) name
   pub pair_is : pair ≡ (of_group name, group_basic one name)
 
-pub pair-cases : (entries : Entries) (pair : Meaning × BasicEvent) → Has (all_pairs entries) pair → IsOwn entries pair ⊎ IsOfGroup entries pair
+pub pair-cases : (entries : Entries) (pair : Meaning × BasicEvent) → Has (all_pairs entries) pair
+    → IsOwn entries pair ⊎ IsOfGroup entries pair
 pair-cases entries pair here =
     let r = from-flat (basic_pairs entries) (enumerate_from 0 entries) pair here in
     let there = from-enumerated entries r.0 r.1 in
     elim (pick-cases (is_kind kind.BasicEvent r.0.1) (is_kind kind.Group r.0.1) _ _ pair r.2) [
-      | inl own ↦ inl (record { place = r.0.0; one = r.0.1; there = there; is = basic-kind r.0.1.kind own.0; pair_is = sym own.1 })
+      | inl own ↦ inl (record {
+        place = r.0.0;
+        one = r.0.1;
+        there = there;
+        is = basic-kind r.0.1.kind own.0;
+        pair_is = sym own.1;
+      })
       | inr group ↦
-          let m = from-map (λ name. (of_group name, group_basic r.0.1 name)) (defined_by_group entries r.0.1) pair group.1 in
-          inr (record { place = r.0.0; one = r.0.1; name = m.0; there = there; is = group-kind r.0.1.kind group.0; defined = m.1; pair_is = sym m.2 })
+          let m = from-map (λ name. (of_group name, group_basic r.0.1 name)) (defined_by_group entries r.0.1)
+          pair group.1 in
+          inr (record {
+            place = r.0.0;
+            one = r.0.1;
+            name = m.0;
+            there = there;
+            is = group-kind r.0.1.kind group.0;
+            defined = m.1;
+            pair_is = sym m.2;
+          })
     ]
 
-pub own-pair : (entries : Entries) (place : ℕ) (one : Entry) → slice_get entries place ≡ Some one → one.kind ≡ kind.BasicEvent → Has (all_pairs entries) (definition place, own_basic entries one)
+pub own-pair : (entries : Entries) (place : ℕ) (one : Entry) → slice_get entries place ≡ Some one
+    → one.kind ≡ kind.BasicEvent → Has (all_pairs entries) (definition place, own_basic entries one)
 own-pair entries place one there is =
     let basic : is_kind kind.BasicEvent one ≡ true = ap (λ k. kind_number k == 2) is in
-    has-flat (basic_pairs entries) (enumerate_from 0 entries) (place, one) _ (has-enumerated entries place one there) (rw basic (0, refl))
+    has-flat (basic_pairs entries) (enumerate_from 0 entries) (place, one) _ (has-enumerated entries place one there)
+    (rw basic (0, refl))
 
-pub group-pair : (entries : Entries) (place : ℕ) (one : Entry) (name : Text) → slice_get entries place ≡ Some one → one.kind ≡ kind.Group → Has (defined_by_group entries one) name → Has (all_pairs entries) (of_group name, group_basic one name)
+pub group-pair : (entries : Entries) (place : ℕ) (one : Entry) (name : Text) → slice_get entries place ≡ Some one
+    → one.kind ≡ kind.Group → Has (defined_by_group entries one) name
+    → Has (all_pairs entries) (of_group name, group_basic one name)
 group-pair entries place one name there is defined =
     let no_basic : is_kind kind.BasicEvent one ≡ false = ap (λ k. kind_number k == 2) is in
     let group : is_kind kind.Group one ≡ true = ap (λ k. kind_number k == 5) is in
     has-flat (basic_pairs entries) (enumerate_from 0 entries) (place, one) _ (has-enumerated entries place one there)
-    (rw no_basic (rw group (has-map (λ n. (of_group n, group_basic one n)) (defined_by_group entries one) name defined)))
+    (rw no_basic (rw group (has-map (λ n. (of_group n, group_basic one n)) (defined_by_group entries one)
+    name defined)))
 
 -- ---- meanings
 
@@ -153,7 +189,8 @@ same-own (definition a) = eq-eqb a a refl
 same-own (of_group a) = text-own a
 
 -- what a basic event stands for is found by its id
-pub basic-at : (entries : Entries) (m : Meaning) → Has (all_basics entries) m → slice_get (all_basics entries) (basic_id entries m) ≡ Some m
+pub basic-at : (entries : Entries) (m : Meaning) → Has (all_basics entries) m
+    → slice_get (all_basics entries) (basic_id entries m) ≡ Some m
 basic-at entries m here =
     let test = λ (one : Meaning). same_meaning (Some one) (Some m) in
     let r = position-of test (all_basics entries) m here (same-own m) in
@@ -162,20 +199,27 @@ basic-at entries m here =
     ap (slice_get (all_basics entries)) found ∙ x.1 ∙ ap Some (same-exact x.0 m x.2)
 
 -- a basic event of the model with a meaning
-pub basic-pair-at : (entries : Entries) (m : Meaning) (b : BasicEvent) → Has (all_pairs entries) (m, b) → (event : BasicEvent) × (slice_get (model_from entries).basics (basic_id entries m) ≡ Some event) × Has (all_pairs entries) (m, event)
+pub basic-pair-at : (entries : Entries) (m : Meaning) (b : BasicEvent) → Has (all_pairs entries) (m, b)
+    → (event : BasicEvent) × (slice_get (model_from entries).basics (basic_id entries m) ≡ Some event) × Has
+    (all_pairs entries) (m, event)
 basic-pair-at entries m b here =
-    let meanings = subst (λ (all : List Meaning). Has all m) (pair-meanings entries) (has-map (λ (pair : Meaning × BasicEvent). pair.0) (all_pairs entries) (m, b) here) in
+    let meanings = subst (λ (all : List Meaning). Has all m) (pair-meanings entries)
+    (has-map (λ (pair : Meaning × BasicEvent). pair.0) (all_pairs entries) (m, b) here) in
     let at = basic-at entries m meanings in
-    let r = map-at (λ (pair : Meaning × BasicEvent). pair.0) (all_pairs entries) (basic_id entries m) m (ap (λ (all : List Meaning). slice_get all (basic_id entries m)) (pair-meanings entries) ∙ at) in
+    let r = map-at (λ (pair : Meaning × BasicEvent). pair.0) (all_pairs entries) (basic_id entries m) m
+    (ap (λ (all : List Meaning). slice_get all (basic_id entries m)) (pair-meanings entries) ∙ at) in
     let pair : r.0 ≡ (m, r.0.1) = ap (λ (x : Meaning). (x, r.0.1)) r.2 in
     let event : slice_get (model_from entries).basics (basic_id entries m) ≡ Some r.0.1 =
-    ap (λ (all : List BasicEvent). slice_get all (basic_id entries m)) (sym (pair-events entries)) ∙ slice_get-map (λ (p : Meaning × BasicEvent). p.1) (all_pairs entries) (basic_id entries m) ∙ ap (option_map (λ (p : Meaning × BasicEvent). p.1)) r.1 in
+    ap (λ (all : List BasicEvent). slice_get all (basic_id entries m)) (sym (pair-events entries))
+    ∙ slice_get-map (λ (p : Meaning × BasicEvent). p.1) (all_pairs entries) (basic_id entries m)
+    ∙ ap (option_map (λ (p : Meaning × BasicEvent). p.1)) r.1 in
     (r.0.1, event, (basic_id entries m, r.1 ∙ ap Some pair))
 
 -- ---- what groups define
 
 -- a body with members is that of a group
-pub has-members : (its : DraftBody) (x : DraftReference) → Has (members_of its) x → (group : DraftGroup) × (its ≡ body.Group group)
+pub has-members : (its : DraftBody) (x : DraftReference) → Has (members_of its) x
+    → (group : DraftGroup) × (its ≡ body.Group group)
 has-members (body.Group group) x h = (group, refl)
 has-members body.Nothing x h = absurd (has-none x h)
 has-members (body.Formula f) x h = absurd (has-none x h)
@@ -185,7 +229,8 @@ has-members (body.Start t) x h = absurd (has-none x h)
 has-members (body.Steps i l) x h = absurd (has-none x h)
 has-members (body.Walk b) x h = absurd (has-none x h)
 
-pub defining-group : (entries : Entries) (place : ℕ) (one : Entry) (name : Text) → IsEntry entries place one → Has (defined_by_group entries one) name → one.kind ≡ kind.Group
+pub defining-group : (entries : Entries) (place : ℕ) (one : Entry) (name : Text) → IsEntry entries place one
+    → Has (defined_by_group entries one) name → one.kind ≡ kind.Group
 defining-group entries place one name is defined =
     let m = from-map _ _ name defined in
     let k = from-kept _ (members_of one.body) m.0 m.1 in
@@ -193,7 +238,9 @@ defining-group entries place one name is defined =
     body-group one.kind g.0 (subst (λ b. has_body one.kind b ≡ true) g.1 is.body)
 
 -- the pair of a basic event that a group defines
-pub defined-pair : (entries : Entries) → AreEntries entries → (name : Text) → is_defined_by_group entries name ≡ true → (place : ℕ) × (one : Entry) × (slice_get entries place ≡ Some one) × Has (defined_by_group entries one) name × Has (all_pairs entries) (of_group name, group_basic one name)
+pub defined-pair : (entries : Entries) → AreEntries entries → (name : Text) → is_defined_by_group entries name ≡ true
+    → (place : ℕ) × (one : Entry) × (slice_get entries place ≡ Some one) × Has (defined_by_group entries one) name
+    × Has (all_pairs entries) (of_group name, group_basic one name)
 defined-pair entries are name h =
     let g = any-from (λ group. list_any (bytes_eq name) (defined_by_group entries group)) entries h in
     let n = any-from (bytes_eq name) (defined_by_group entries g.0) g.2 in

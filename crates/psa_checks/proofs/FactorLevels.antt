@@ -34,16 +34,19 @@ weigh-both : {A : Type 0} (f g : A → ℕ) (xs : List A) → weigh (λ x. f x +
 weigh-both f g [] = refl
 weigh-both f g (x ∷ xs) = let rest = weigh-both f g xs in omega (arith, rest)
 
-exchange : {A B : Type 0} (h : A → B → ℕ) (xs : List A) (ys : List B) → weigh (λ x. weigh (λ y. h x y) ys) xs ≡ weigh (λ y. weigh (λ x. h x y) xs) ys
+exchange : {A B : Type 0} (h : A → B → ℕ) (xs : List A) (ys : List B)
+    → weigh (λ x. weigh (λ y. h x y) ys) xs ≡ weigh (λ y. weigh (λ x. h x y) xs) ys
 exchange h [] ys = sym (weigh-none ys)
-exchange h (x ∷ xs) ys = ap (λ n. weigh (λ y. h x y) ys + n) (exchange h xs ys) ∙ sym (weigh-both (λ y. h x y) (λ y. weigh (λ z. h z y) xs) ys)
+exchange h (x ∷ xs) ys = ap (λ n. weigh (λ y. h x y) ys + n) (exchange h xs ys)
+    ∙ sym (weigh-both (λ y. h x y) (λ y. weigh (λ z. h z y) xs) ys)
 
 weigh-most : {A : Type 0} (f : A → ℕ) → ((x : A) → f x ≤ 1) → (xs : List A) → weigh f xs ≤ length xs
 weigh-most f most [] = omega arith
 weigh-most f most (x ∷ xs) = let here = most x in let rest = weigh-most f most xs in omega (arith, here, rest)
 
 -- where each weighs at most one and all weigh as many as they are, each weighs one
-each-one : {A : Type 0} (f : A → ℕ) → ((x : A) → f x ≤ 1) → (xs : List A) → weigh f xs ≡ length xs → (x : A) → Has xs x → f x ≡ 1
+each-one : {A : Type 0} (f : A → ℕ) → ((x : A) → f x ≤ 1) → (xs : List A) → weigh f xs ≡ length xs → (x : A)
+    → Has xs x → f x ≡ 1
 each-one f most [] h x here = absurd (has-none x here)
 each-one {A} f most (y ∷ xs) h x here =
     let first = most y in
@@ -61,7 +64,8 @@ ones f (x ∷ xs) h =
     let rest = ones f xs parts.1 in
     omega (arith, here, rest)
 
-some-one : {A : Type 0} (p : A → Bool) (xs : List A) → weigh (λ x. one_if (p x)) xs ≡ 1 → (x : A) × Has xs x × (p x ≡ true)
+some-one : {A : Type 0} (p : A → Bool) (xs : List A) → weigh (λ x. one_if (p x)) xs ≡ 1
+    → (x : A) × Has xs x × (p x ≡ true)
 some-one p [] h = absurd (omega (arith, h))
 some-one p (x ∷ xs) h = elim (cases_Bool (p x)) [
   | inl here ↦ (x, has-first x xs, here)
@@ -74,7 +78,8 @@ some-one p (x ∷ xs) h = elim (cases_Bool (p x)) [
 -- ---- levels
 
 -- a level stands at most once in a range
-once : (v a n : ℕ) → (weigh (λ level. one_if (v == level)) (range_with_len a n) ≤ 1) × (v < a → weigh (λ level. one_if (v == level)) (range_with_len a n) ≡ 0)
+once : (v a n : ℕ) → (weigh (λ level. one_if (v == level)) (range_with_len a n) ≤ 1)
+    × (v < a → weigh (λ level. one_if (v == level)) (range_with_len a n) ≡ 0)
 once v a zero = (omega arith, λ l. refl)
 once v a (suc n) =
     let rest = once v (a + 1) n in
@@ -97,40 +102,56 @@ once-in Beta members v = elim (cases_Bool (v == members)) [
 once-in Mgl members v = (once v 2 (members - 1)).0
 once-in Alpha members v = (once v 1 members).0
 
-most-once : (model : GroupModel) (members : ℕ) (o : Option ℕ) → weigh (λ level. one_if (option_map_or (λ its. its == level) o false)) (levels_of model members) ≤ 1
+most-once : (model : GroupModel) (members : ℕ) (o : Option ℕ)
+    → weigh (λ level. one_if (option_map_or (λ its. its == level) o false)) (levels_of model members) ≤ 1
 most-once model members None = let none = weigh-none (levels_of model members) in omega (arith, none)
 most-once model members (Some v) = once-in model members v
 
 -- each factor has a level of the model
-each-level : (model : GroupModel) (members : ℕ) (factors : List DraftFactor) → has_levels model members factors ≡ true → (factor : DraftFactor) → Has factors factor → (level : ℕ) × Has (levels_of model members) level × (has_level model members level factor ≡ true)
+each-level : (model : GroupModel) (members : ℕ) (factors : List DraftFactor) → has_levels model members factors ≡ true
+    → (factor : DraftFactor) → Has factors factor
+    → (level : ℕ) × Has (levels_of model members) level × (has_level model members level factor ≡ true)
 each-level model members factors h factor here =
     let levels = levels_of model members in
     let parts = and_parts (length factors == length levels) _ h in
     let number = eqb-true (length factors) (length levels) parts.0 in
     let counted = ones (λ level. count_by (has_level model members level) factors) levels parts.1 in
-    let each = weigh-same (λ level. count_by (has_level model members level) factors) (λ level. weigh (λ f. one_if (has_level model members level f)) factors) (λ level. count-weigh (has_level model members level) factors) levels in
+    let each = weigh-same (λ level. count_by (has_level model members level) factors)
+    (λ level. weigh (λ f. one_if (has_level model members level f)) factors)
+    (λ level. count-weigh (has_level model members level) factors) levels in
     let other = exchange (λ (f : DraftFactor) (level : ℕ). one_if (has_level model members level f)) factors levels in
-    let all : weigh (λ f. weigh (λ level. one_if (has_level model members level f)) levels) factors ≡ length factors = other ∙ sym each ∙ counted ∙ sym number in
-    let one = each-one (λ f. weigh (λ level. one_if (has_level model members level f)) levels) (λ f. most-once model members (level_in model members f)) factors all factor here in
+    let all : weigh (λ f. weigh (λ level. one_if (has_level model members level f)) levels) factors ≡ length factors =
+    other ∙ sym each ∙ counted ∙ sym number in
+    let one = each-one (λ f. weigh (λ level. one_if (has_level model members level f)) levels)
+    (λ f. most-once model members (level_in model members f)) factors all factor here in
     some-one (λ level. has_level model members level factor) levels one
 
 -- the level of a factor in the model
-level-says : (model : GroupModel) (members : ℕ) (factor : DraftFactor) (v : ℕ) → level_in model members factor ≡ Some v → unwrap_or factor.level members ≡ v
+level-says : (model : GroupModel) (members : ℕ) (factor : DraftFactor) (v : ℕ)
+    → level_in model members factor ≡ Some v → unwrap_or factor.level members ≡ v
 level-says Beta members factor v h = cc
 level-says Mgl members factor v h = ap (λ o. unwrap_or o members) h
 level-says Alpha members factor v h = ap (λ o. unwrap_or o members) h
 
 -- where a factor has some level, it has it in the model, and no other
-same-level : (model : GroupModel) (members : ℕ) (factor : DraftFactor) (level : ℕ) → has_level model members level factor ≡ true → (other : ℕ) → (unwrap_or factor.level members == other) ≡ has_level model members other factor
+same-level : (model : GroupModel) (members : ℕ) (factor : DraftFactor) (level : ℕ)
+    → has_level model members level factor ≡ true → (other : ℕ)
+    → (unwrap_or factor.level members == other) ≡ has_level model members other factor
 same-level model members factor level h other = by_level_in (level_in model members factor) refl h
   where
-    by_level_in : (o : Option ℕ) → level_in model members factor ≡ o → option_map_or (λ its. its == level) o false ≡ true → (unwrap_or factor.level members == other) ≡ has_level model members other factor
+    by_level_in : (o : Option ℕ) → level_in model members factor ≡ o
+        → option_map_or (λ its. its == level) o false ≡ true
+        → (unwrap_or factor.level members == other) ≡ has_level model members other factor
     by_level_in None at k = absurd (false≢true k)
-    by_level_in (Some v) at k = ap (λ (n : ℕ). n == other) (level-says model members factor v at) ∙ ap (λ (o : Option ℕ). option_map_or (λ its. its == other) o false) (sym at)
+    by_level_in (Some v) at k = ap (λ (n : ℕ). n == other) (level-says model members factor v at)
+        ∙ ap (λ (o : Option ℕ). option_map_or (λ its. its == other) o false) (sym at)
 
 -- ---- the factors of the model
 
-kept-levels : (make : DraftFactor → Factor) (hit : DraftFactor → Bool) (level : ℕ) (factors : List DraftFactor) → ((f : DraftFactor) → Has factors f → ((make f).level == level) ≡ hit f) → map (λ (f : Factor). f.level) (filter (λ f. f.level == level) (map make factors)) ≡ replicate (weigh (λ f. one_if (hit f)) factors) level
+kept-levels : (make : DraftFactor → Factor) (hit : DraftFactor → Bool) (level : ℕ) (factors : List DraftFactor)
+    → ((f : DraftFactor) → Has factors f → ((make f).level == level) ≡ hit f)
+    → map (λ (f : Factor). f.level) (filter (λ f. f.level == level) (map make factors)) ≡ replicate
+    (weigh (λ f. one_if (hit f)) factors) level
 kept-levels make hit level [] same = refl
 kept-levels make hit level (f ∷ factors) same =
     let rest = kept-levels make hit level factors (λ g later. same g (has-later f g factors later)) in
@@ -138,23 +159,28 @@ kept-levels make hit level (f ∷ factors) same =
     elim (cases_Bool (hit f)) [
       | inl hits ↦
           let passes : ((make f).level == level) ≡ true = here ∙ hits in
-          rw passes (rw hits (ap₂ (λ (n : ℕ) (ns : List ℕ). n ∷ ns) (eqb-true (make f).level level passes) rest ∙ ap (λ (n : ℕ). replicate n level) (sym (one-add (weigh (λ g. one_if (hit g)) factors)))))
+          rw passes (rw hits (ap₂ (λ (n : ℕ) (ns : List ℕ). n ∷ ns) (eqb-true (make f).level level passes) rest
+          ∙ ap (λ (n : ℕ). replicate n level) (sym (one-add (weigh (λ g. one_if (hit g)) factors)))))
       | inr misses ↦
           let fails : ((make f).level == level) ≡ false = here ∙ misses in
-          rw fails (rw misses (rest ∙ ap (λ (n : ℕ). replicate n level) (zero_front (weigh (λ g. one_if (hit g)) factors))))
+          rw fails (rw misses (rest ∙ ap (λ (n : ℕ). replicate n level)
+          (zero_front (weigh (λ g. one_if (hit g)) factors))))
     ]
   where
     zero_front : (n : ℕ) → n ≡ 0 + n
     zero_front n = omega arith
 
-no-hit : (p : DraftFactor → Bool) (factors : List DraftFactor) → ((f : DraftFactor) → Has factors f → p f ≡ false) → weigh (λ f. one_if (p f)) factors ≡ 0
+no-hit : (p : DraftFactor → Bool) (factors : List DraftFactor) → ((f : DraftFactor) → Has factors f → p f ≡ false)
+    → weigh (λ f. one_if (p f)) factors ≡ 0
 no-hit p [] none = refl
 no-hit p (f ∷ factors) none =
     let here : one_if (p f) ≡ 0 = rw (none f (has-first f factors)) refl in
     let rest = no-hit p factors (λ g later. none g (has-later f g factors later)) in
     omega (arith, here, rest)
 
-hits-one : (model : GroupModel) (members : ℕ) (factors : List DraftFactor) → has_levels model members factors ≡ true → (level : ℕ) → weigh (λ f. one_if (has_level model members level f)) factors ≡ one_if (list_any (λ x. x == level) (levels_of model members))
+hits-one : (model : GroupModel) (members : ℕ) (factors : List DraftFactor) → has_levels model members factors ≡ true
+    → (level : ℕ) → weigh (λ f. one_if (has_level model members level f)) factors ≡ one_if
+    (list_any (λ x. x == level) (levels_of model members))
 hits-one model members factors h level =
     let levels = levels_of model members in
     let parts = and_parts (length factors == length levels) _ h in
@@ -162,11 +188,14 @@ hits-one model members factors h level =
       | inl there ↦
           let r = any-from (λ x. x == level) levels there in
           let same = eqb-true r.0 level r.2 in
-          let count = eqb-true _ 1 (all-at (λ l. count_by (has_level model members l) factors == 1) levels r.0 parts.1 r.1) in
-          let one : count_by (has_level model members level) factors ≡ 1 = subst (λ (l : ℕ). count_by (has_level model members l) factors ≡ 1) same count in
+          let count = eqb-true _ 1 (all-at (λ l. count_by (has_level model members l) factors == 1)
+          levels r.0 parts.1 r.1) in
+          let one : count_by (has_level model members level) factors ≡ 1 =
+          subst (λ (l : ℕ). count_by (has_level model members l) factors ≡ 1) same count in
           rw there (sym (count-weigh (has_level model members level) factors) ∙ one)
       | inr absent ↦
-          rw absent (no-hit (has_level model members level) factors (λ f here. false_from_ne_true (has_level model members level f) (λ hits.
+          rw absent (no-hit (has_level model members level) factors
+          (λ f here. false_from_ne_true (has_level model members level f) (λ hits.
           (let r = each-level model members factors h f here in
           let own = same-level model members f level hits level ∙ hits in
           let its = same-level model members f level hits r.0 ∙ r.2 in
@@ -186,15 +215,27 @@ small P p2 p3 p4 p5 p6 p7 p8 (suc (suc (suc (suc (suc (suc (suc zero))))))) l u 
 small P p2 p3 p4 p5 p6 p7 p8 (suc (suc (suc (suc (suc (suc (suc (suc zero)))))))) l u = p8
 small P p2 p3 p4 p5 p6 p7 p8 (suc (suc (suc (suc (suc (suc (suc (suc (suc n))))))))) l u = absurd (omega (arith, u))
 
-among-levels : (model : GroupModel) (members : ℕ) → MIN_MEMBERS ≤ members → members ≤ MAX_MEMBERS → flat_map (λ level. replicate (one_if (list_any (λ x. x == level) (levels_of model members))) level) (range_with_len 1 MAX_MEMBERS) ≡ levels_of model members
-among-levels Beta members l u = small (λ n. flat_map (λ level. replicate (one_if (list_any (λ x. x == level) (levels_of Beta n))) level) (range_with_len 1 MAX_MEMBERS) ≡ levels_of Beta n) refl refl refl refl refl refl refl members l u
-among-levels Mgl members l u = small (λ n. flat_map (λ level. replicate (one_if (list_any (λ x. x == level) (levels_of Mgl n))) level) (range_with_len 1 MAX_MEMBERS) ≡ levels_of Mgl n) refl refl refl refl refl refl refl members l u
-among-levels Alpha members l u = small (λ n. flat_map (λ level. replicate (one_if (list_any (λ x. x == level) (levels_of Alpha n))) level) (range_with_len 1 MAX_MEMBERS) ≡ levels_of Alpha n) refl refl refl refl refl refl refl members l u
+among-levels : (model : GroupModel) (members : ℕ) → MIN_MEMBERS ≤ members → members ≤ MAX_MEMBERS
+    → flat_map (λ level. replicate (one_if (list_any (λ x. x == level) (levels_of model members))) level)
+    (range_with_len 1 MAX_MEMBERS) ≡ levels_of model members
+among-levels Beta members l u = small (λ n. flat_map
+    (λ level. replicate (one_if (list_any (λ x. x == level) (levels_of Beta n))) level) (range_with_len 1 MAX_MEMBERS)
+    ≡ levels_of Beta n) refl refl refl refl refl refl refl members l u
+among-levels Mgl members l u = small (λ n. flat_map
+    (λ level. replicate (one_if (list_any (λ x. x == level) (levels_of Mgl n))) level) (range_with_len 1 MAX_MEMBERS)
+    ≡ levels_of Mgl n) refl refl refl refl refl refl refl members l u
+among-levels Alpha members l u = small (λ n. flat_map
+    (λ level. replicate (one_if (list_any (λ x. x == level) (levels_of Alpha n))) level)
+    (range_with_len 1 MAX_MEMBERS) ≡ levels_of Alpha n) refl refl refl refl refl refl refl members l u
 
 -- the levels of the factors of a group with the levels of its model
-pub model-levels : (model : GroupModel) (members : ℕ) (factors : List DraftFactor) (make : DraftFactor → Factor) → ((f : DraftFactor) → (make f).level ≡ unwrap_or f.level members) → has_levels model members factors ≡ true → MIN_MEMBERS ≤ members → members ≤ MAX_MEMBERS → map (λ (f : Factor). f.level) (by_level (map make factors)) ≡ levels_of model members
+pub model-levels : (model : GroupModel) (members : ℕ) (factors : List DraftFactor) (make : DraftFactor → Factor)
+    → ((f : DraftFactor) → (make f).level ≡ unwrap_or f.level members) → has_levels model members factors ≡ true
+    → MIN_MEMBERS ≤ members → members ≤ MAX_MEMBERS
+    → map (λ (f : Factor). f.level) (by_level (map make factors)) ≡ levels_of model members
 model-levels model members factors make says h least most =
-    map-flat (λ (f : Factor). f.level) (λ level. filter (λ f. f.level == level) (map make factors)) (range_with_len 1 MAX_MEMBERS)
+    map-flat (λ (f : Factor). f.level) (λ level. filter (λ f. f.level == level) (map make factors))
+    (range_with_len 1 MAX_MEMBERS)
     ∙ flat-same _ (λ level. replicate (one_if (list_any (λ x. x == level) (levels_of model members))) level) (λ level.
     kept-levels make (has_level model members level) level factors (λ f here.
     (let r = each-level model members factors h f here in

@@ -36,7 +36,8 @@ pub no-faults : (all : List PlacedFault) → earliest all ≡ None → all ≡ [
 no-faults [] h = refl
 no-faults (one ∷ others) h = absurd (earlier-some one (earliest others) h)
 
-next-none : (o : Option PlacedFault) (next : Unit {0} → Option PlacedFault) → or_next o next ≡ None → (o ≡ None) × (next tt ≡ None)
+next-none : (o : Option PlacedFault) (next : Unit {0} → Option PlacedFault) → or_next o next ≡ None
+    → (o ≡ None) × (next tt ≡ None)
 next-none None next h = (refl, h)
 next-none (Some one) next h = absurd (none-some one (sym h))
 
@@ -72,7 +73,8 @@ has-no-fault entries h =
 nothing-in : {A : Type 0} (xs : List A) (x : A) → xs ≡ [] → Has xs x → ⊥
 nothing-in {A} xs x none here = has-none x (subst (λ (ys : List A). Has ys x) none here)
 
-has-made : {A B : Type 0} (f : A → Option B) (xs : List A) (x : A) (y : B) → Has xs x → f x ≡ Some y → Has (filter_map f xs) y
+has-made : {A B : Type 0} (f : A → Option B) (xs : List A) (x : A) (y : B) → Has xs x → f x ≡ Some y
+    → Has (filter_map f xs) y
 has-made f [] x y here h = absurd (has-none x here)
 has-made {A} {B} f (z ∷ xs) x y here h = by_case (f z) refl (λ later. has-made f xs x y later h)
   where
@@ -86,45 +88,67 @@ has-made {A} {B} f (z ∷ xs) x y here h = by_case (f z) refl (λ later. has-mad
       | inr later ↦ has-later w y (filter_map f xs) (rest later)
     ])
 
-pub references-stand : (entries : Entries) (one : Entry) → bad_references entries ≡ [] → Has entries one → list_all (stands entries one) (references_of one) ≡ true
+pub references-stand : (entries : Entries) (one : Entry) → bad_references entries ≡ [] → Has entries one
+    → list_all (stands entries one) (references_of one) ≡ true
 references-stand entries one none here =
-    all-from (stands entries one) (references_of one) (λ reference there. stood reference there (reference_fault entries reference.kind (meaning_of entries one reference)) refl)
+    all-from (stands entries one) (references_of one)
+    (λ reference there. stood reference there
+    (reference_fault entries reference.kind (meaning_of entries one reference)) refl)
   where
-    stood : (reference : Reference) → Has (references_of one) reference → (o : Option FaultKind) → reference_fault entries reference.kind (meaning_of entries one reference) ≡ o → stands entries one reference ≡ true
+    stood : (reference : Reference) → Has (references_of one) reference → (o : Option FaultKind)
+        → reference_fault entries reference.kind (meaning_of entries one reference) ≡ o
+        → stands entries one reference ≡ true
     stood reference there None at = ap (λ (x : Option FaultKind). is_none x) at
     stood reference there (Some its) at =
         absurd (nothing-in (bad_references entries) _ none
         (has-flat (λ (e : Entry). filter_map (fault_of_reference entries e) (references_of e)) entries one _ here
-        (has-made (fault_of_reference entries one) (references_of one) reference _ there (ap (option_map (λ (k : FaultKind). fault_at k (reference_position reference.written) reference.written.place reference.written.name)) at))))
+        (has-made (fault_of_reference entries one) (references_of one) reference _ there
+        (ap (option_map (λ (k : FaultKind). fault_at k (reference_position reference.written)
+        reference.written.place reference.written.name)) at))))
 
-not-kept : {A B : Type 0} (make : A → B) (test : A → Bool) (xs : List A) (x : A) → map make (filter test xs) ≡ [] → Has xs x → test x ≡ false
-not-kept make test xs x none here = false_from_ne_true (test x) (λ passes. nothing-in _ _ none (has-map make (filter test xs) x (has-kept test xs x here passes)))
+not-kept : {A B : Type 0} (make : A → B) (test : A → Bool) (xs : List A) (x : A) → map make (filter test xs) ≡ []
+    → Has xs x → test x ≡ false
+not-kept make test xs x none here = false_from_ne_true (test x)
+    (λ passes. nothing-in _ _ none (has-map make (filter test xs) x (has-kept test xs x here passes)))
 
 and-not : (a b : Bool) → (a && not b) ≡ false → a ≡ true → b ≡ true
 and-not true true h k = refl
 and-not true false h k = sym h
 and-not false b h k = absurd (false≢true k)
 
-group-allowed : (entries : Entries) (place : ℕ) (one : Entry) → bad_groups entries ≡ [] → slice_get entries place ≡ Some one → is_in_family groups one ≡ true → is_allowed_group entries (take place entries) one ≡ true
+group-allowed : (entries : Entries) (place : ℕ) (one : Entry) → bad_groups entries ≡ []
+    → slice_get entries place ≡ Some one → is_in_family groups one ≡ true
+    → is_allowed_group entries (take place entries) one ≡ true
 group-allowed entries place one none there is =
     and-not (is_in_family groups one) (is_allowed_group entries (take place entries) one)
-    (not-kept _ (λ (o : ℕ × Entry). is_in_family groups o.1 && not (is_allowed_group entries (take o.0 entries) o.1)) (enumerate_from 0 entries) (place, one) none (has-enumerated entries place one there)) is
+    (not-kept _ (λ (o : ℕ × Entry). is_in_family groups o.1 && not (is_allowed_group entries (take o.0 entries) o.1))
+    (enumerate_from 0 entries) (place, one) none (has-enumerated entries place one there)) is
 
-within-all : (entries : Entries) (one : Entry) → too_deep entries ≡ [] → Has entries one → is_chained one.kind ≡ true → is_within_all MAX_DEPTH entries one ≡ true
+within-all : (entries : Entries) (one : Entry) → too_deep entries ≡ [] → Has entries one → is_chained one.kind ≡ true
+    → is_within_all MAX_DEPTH entries one ≡ true
 within-all entries one none here is =
     and-not (is_chained one.kind) (is_within_all MAX_DEPTH entries one)
-    (not-kept _ (λ (o : Entry). is_chained o.kind && not (is_within_all MAX_DEPTH entries o)) entries one none here) is
+    (not-kept _ (λ (o : Entry). is_chained o.kind && not (is_within_all MAX_DEPTH entries o)) entries one none here)
+    is
 
 -- what stands in one of some bodies
-part-contents : (all : List DraftDefinition) (d : DraftDefinition) → Has all d → (together (map (λ (x : DraftDefinition). body_contents x.body) all)).has_numbers ≡ true → ((body_contents d.body).has_numbers ≡ true) × ((body_contents d.body).nesting ≤ (together (map (λ (x : DraftDefinition). body_contents x.body) all)).nesting)
+part-contents : (all : List DraftDefinition) (d : DraftDefinition) → Has all d
+    → (together (map (λ (x : DraftDefinition). body_contents x.body) all)).has_numbers ≡ true
+    → ((body_contents d.body).has_numbers ≡ true)
+    × ((body_contents d.body).nesting ≤ (together (map (λ (x : DraftDefinition). body_contents x.body) all)).nesting)
 part-contents [] d here h = absurd (has-none d here)
 part-contents (x ∷ all) d here h =
-    let parts = and_parts (body_contents x.body).has_numbers (together (map (λ (y : DraftDefinition). body_contents y.body) all)).has_numbers h in
+    let parts = and_parts (body_contents x.body).has_numbers
+    (together (map (λ (y : DraftDefinition). body_contents y.body) all)).has_numbers h in
     elim (has-cases x d all here) [
       | inl same ↦
-          let first : (body_contents x.body).nesting ≤ (together (map (λ (y : DraftDefinition). body_contents y.body) (x ∷ all))).nesting = omega arith in
-          subst (λ (y : DraftDefinition). ((body_contents y.body).has_numbers ≡ true) × ((body_contents y.body).nesting ≤ (together (map (λ (z : DraftDefinition). body_contents z.body) (x ∷ all))).nesting)) same (parts.0, first)
-      | inr later ↦ let rest = part-contents all d later parts.1 in let nested = rest.1 in (rest.0, omega (arith, nested))
+          let first : (body_contents x.body).nesting
+          ≤ (together (map (λ (y : DraftDefinition). body_contents y.body) (x ∷ all))).nesting = omega arith in
+          subst (λ (y : DraftDefinition). ((body_contents y.body).has_numbers ≡ true)
+          × ((body_contents y.body).nesting ≤ (together
+          (map (λ (z : DraftDefinition). body_contents z.body) (x ∷ all))).nesting)) same (parts.0, first)
+      | inr later ↦ let rest = part-contents all d later parts.1 in let nested =
+          rest.1 in (rest.0, omega (arith, nested))
     ]
 
 -- each definition of a draft without a fault
@@ -137,7 +161,8 @@ are-entries draft is none place one there =
     let nested = contents.1 in
     subst (λ (e : Entry). slice_get entries place ≡ Some e → IsEntry entries place e) d.2 (λ at. record {
       laid = refl;
-      body = All-at (λ (x : DraftDefinition). has_body x.kind x.body ≡ true) draft.definitions d.0 is.bodies (place, d.1);
+      body = All-at (λ (x : DraftDefinition). has_body x.kind x.body ≡ true) draft.definitions d.0 is.bodies
+          (place, d.1);
       numbers = contents.0;
       shallow = omega (arith, nested, shallow);
       stand = references-stand entries (entry_of d.0) none.reference (place, at);
@@ -148,4 +173,5 @@ are-entries draft is none place one there =
 -- the definitions stand in order
 pub entries-ascend : (draft : Draft) → IsDraft draft → IsAscending (entries_of draft)
 entries-ascend draft is =
-    ascending-from (entries_of draft) (ap are_ascending (map-map (λ (e : Entry). position_of e.definition) entry_of draft.definitions) ∙ is.ascending)
+    ascending-from (entries_of draft) (ap are_ascending
+    (map-map (λ (e : Entry). position_of e.definition) entry_of draft.definitions) ∙ is.ascending)

@@ -37,18 +37,23 @@ use Rattle.psa_checks.proofs.Basics.{own-pair, basic-pair-at, defined-pair}
 
 -- ---- one layer
 
-pub outline-of : (f : DraftFormula) → formula_outline f ≡ formula_layer (map-DraftFormula DraftFormula Outline formula_outline (out-DraftFormula f))
+pub outline-of : (f : DraftFormula)
+    → formula_outline f ≡ formula_layer (map-DraftFormula DraftFormula Outline formula_outline (out-DraftFormula f))
 outline-of f = fold_out-DraftFormula Outline formula_layer f
 
-pub contents-of : (f : DraftFormula) → formula_contents f ≡ formula_step (map-DraftFormula DraftFormula Contents formula_contents (out-DraftFormula f))
+pub contents-of : (f : DraftFormula)
+    → formula_contents f ≡ formula_step (map-DraftFormula DraftFormula Contents formula_contents (out-DraftFormula f))
 contents-of f = fold_out-DraftFormula Contents formula_step f
 
-pub resolved-of : (entries : Entries) (from : Entry) (f : DraftFormula) → resolved_formula entries from f ≡ resolved_formula_layer entries from (map-DraftFormula DraftFormula Formula (resolved_formula entries from) (out-DraftFormula f))
+pub resolved-of : (entries : Entries) (from : Entry) (f : DraftFormula)
+    → resolved_formula entries from f ≡ resolved_formula_layer entries from
+    (map-DraftFormula DraftFormula Formula (resolved_formula entries from) (out-DraftFormula f))
 resolved-of entries from f = fold_out-DraftFormula Formula (resolved_formula_layer entries from) f
 
 -- each formula of these levels in a definition is within as many in the model
 abbrev pub FormulasAt : Entries → ℕ → Type 0
-FormulasAt entries levels = (from : Entry) (f : DraftFormula) → Fine entries levels from (formula_outline f ∷ []) (formula_contents f ∷ []) → within levels (model_from entries) (resolved_formula entries from f) ≡ true
+FormulasAt entries levels = (from : Entry) (f : DraftFormula) → Fine entries levels from (formula_outline f ∷ [])
+    (formula_contents f ∷ []) → within levels (model_from entries) (resolved_formula entries from f) ≡ true
 
 -- what a gate with a body says
 abbrev pub formula_by : Entries → Entry → DraftBody → Formula
@@ -60,7 +65,10 @@ house_of one = record { name = model_name one; place = one.place; state = state_
 
 -- ---- events
 
-within-gate : (levels : ℕ) (entries : Entries) (from : Entry) (its : EventKind) (name : DraftReference) (place : ℕ) (one : Entry) → AreEntries entries → slice_get entries place ≡ Some one → one.kind ≡ kind.Gate → FormulasAt entries levels → list_all (is_within levels entries one) one.outlines ≡ true → within (suc levels) (model_from entries) (formula.Gate (record { 0 = id_of kind.Gate entries place })) ≡ true
+within-gate : (levels : ℕ) (entries : Entries) (from : Entry) (its : EventKind) (name : DraftReference) (place : ℕ)
+    (one : Entry) → AreEntries entries → slice_get entries place ≡ Some one → one.kind ≡ kind.Gate
+    → FormulasAt entries levels → list_all (is_within levels entries one) one.outlines ≡ true
+    → within (suc levels) (model_from entries) (formula.Gate (record { 0 = id_of kind.Gate entries place })) ≡ true
 unfolding within
 within-gate levels entries from its name place one are there is below h =
     let entry = are place one there in
@@ -69,14 +77,22 @@ within-gate levels entries from its name place one are there is below h =
     let says : formula_in entries one ≡ resolved_formula entries one b.0 = ap (formula_by entries one) b.1 in
     let right : is_kind kind.Gate one ≡ true = ap (λ k. kind_number k == 1) is in
     let at = made-at kind.Gate entries (gate_of entries) place one there right in
-    rw (out-gate (record { 0 = id_of kind.Gate entries place }), at) (ap (within levels (model_from entries)) says ∙ below one b.0 fine)
+    rw (out-gate (record { 0 = id_of kind.Gate entries place }), at)
+    (ap (within levels (model_from entries)) says ∙ below one b.0 fine)
 
-leads-to : (test : Entry → Bool) (entries : Entries) (place : ℕ) (one : Entry) → slice_get entries place ≡ Some one → is_chained one.kind ≡ true → passes_on test entries (chained_place entries (definition place)) ≡ true → test one ≡ true
+leads-to : (test : Entry → Bool) (entries : Entries) (place : ℕ) (one : Entry) → slice_get entries place ≡ Some one
+    → is_chained one.kind ≡ true → passes_on test entries (chained_place entries (definition place)) ≡ true
+    → test one ≡ true
 leads-to test entries place one there chained h =
     let on : chained_place entries (definition place) ≡ Some place = rw there (rw chained refl) in
     rw there at (subst (λ o. passes_on test entries o ≡ true) on h)
 
-event-meaning : (levels : ℕ) (entries : Entries) (from : Entry) (its : EventKind) (name : DraftReference) (o : Option Meaning) → AreEntries entries → FormulasAt entries levels → ((m : Meaning) → o ≡ Some m → IsEvent entries m) → is_none (reference_fault entries (event its) o) ≡ true → passes_on (λ to. list_all (λ one. is_within levels entries to one) to.outlines) entries (option_and_then (chained_place entries) o) ≡ true → within (suc levels) (model_from entries) (event_formula entries o) ≡ true
+event-meaning : (levels : ℕ) (entries : Entries) (from : Entry) (its : EventKind) (name : DraftReference)
+    (o : Option Meaning) → AreEntries entries → FormulasAt entries levels
+    → ((m : Meaning) → o ≡ Some m → IsEvent entries m) → is_none (reference_fault entries (event its) o) ≡ true
+    → passes_on (λ to. list_all (λ one. is_within levels entries to one) to.outlines) entries
+    (option_and_then (chained_place entries) o) ≡ true
+    → within (suc levels) (model_from entries) (event_formula entries o) ≡ true
 unfolding within
 event-meaning levels entries from its name None are below at stands on = absurd (false≢true stands)
 event-meaning levels entries from its name (Some (of_group n)) are below at stands on =
@@ -90,7 +106,8 @@ event-meaning levels entries from its name (Some (definition place)) are below a
       | inl gate ↦
           let right : is_kind kind.Gate e.0 ≡ true = ap (λ k. kind_number k == 1) gate in
           let chained : is_chained e.0.kind ≡ true = ap is_chained gate in
-          let h = leads-to (λ to. list_all (λ one. is_within levels entries to one) to.outlines) entries place e.0 e.1 chained on in
+          let h = leads-to (λ to. list_all (λ one. is_within levels entries to one) to.outlines)
+          entries place e.0 e.1 chained on in
           rw e.1 (rw right (within-gate levels entries from its name place e.0 are e.1 gate below h))
       | inr (inl basic) ↦
           let no_gate : is_kind kind.Gate e.0 ≡ false = ap (λ k. kind_number k == 1) basic in
@@ -108,25 +125,43 @@ event-meaning levels entries from its name (Some (definition place)) are below a
 
 -- ---- formulas
 
-layer-within : (levels : ℕ) (entries : Entries) (from : Entry) → AreEntries entries → FormulasAt entries levels → (x : DraftFormula-F DraftFormula) → Fine entries (suc levels) from (formula_layer (map-DraftFormula DraftFormula Outline formula_outline x) ∷ []) (formula_step (map-DraftFormula DraftFormula Contents formula_contents x) ∷ []) → within (suc levels) (model_from entries) (resolved_formula_layer entries from (map-DraftFormula DraftFormula Formula (resolved_formula entries from) x)) ≡ true
+layer-within : (levels : ℕ) (entries : Entries) (from : Entry) → AreEntries entries → FormulasAt entries levels
+    → (x : DraftFormula-F DraftFormula)
+    → Fine entries (suc levels) from (formula_layer (map-DraftFormula DraftFormula Outline formula_outline x) ∷ [])
+    (formula_step (map-DraftFormula DraftFormula Contents formula_contents x) ∷ [])
+    → within (suc levels) (model_from entries)
+    (resolved_formula_layer entries from (map-DraftFormula DraftFormula Formula (resolved_formula entries from) x))
+    ≡ true
 unfolding within
 layer-within levels entries from are below (DraftFormula-F.Event its name) fine =
-    let inner = inside entries levels from (Some (record { kind = event its; written = name })) [] true (Some name) [] fine in
+    let inner = inside entries levels from (Some (record { kind = event its; written = name })) [] true (Some name)
+    [] fine in
     let stands = (and_parts _ true inner.own).0 in
-    event-meaning levels entries from its name (meaning_of_event entries (scope_of from) name.name) are below (event-at entries (scope_of from) name.name) stands inner.on
+    event-meaning levels entries from its name (meaning_of_event entries (scope_of from) name.name) are below
+    (event-at entries (scope_of from) name.name) stands inner.on
 layer-within levels entries from are below (DraftFormula-F.Constant state) fine = rw (out-constant state) refl
 layer-within levels entries from are below (DraftFormula-F.Connective operator least most arguments) fine =
-    let inner = inside entries levels from None (map formula_outline arguments) (has_arity operator least most (length (map formula_contents arguments))) None (map formula_contents arguments) fine in
-    let all = fine-each entries levels from formula_outline formula_contents (λ f. within levels (model_from entries) (resolved_formula entries from f)) (below from) arguments inner.fine in
+    let inner = inside entries levels from None (map formula_outline arguments)
+    (has_arity operator least most (length (map formula_contents arguments))) None
+    (map formula_contents arguments) fine in
+    let all = fine-each entries levels from formula_outline formula_contents
+    (λ f. within levels (model_from entries) (resolved_formula entries from f)) (below from)
+    arguments inner.fine in
     let number : has_arity operator least most (length (map (resolved_formula entries from) arguments)) ≡ true =
-    ap (has_arity operator least most) (length-map arguments (resolved_formula entries from) ∙ sym (length-map arguments formula_contents)) ∙ inner.right_number in
+    ap (has_arity operator least most) (length-map arguments (resolved_formula entries from)
+    ∙ sym (length-map arguments formula_contents)) ∙ inner.right_number in
     rw (out-connective operator least most (map (resolved_formula entries from) arguments))
-    (and_from _ _ number (list_all-mapped (within levels (model_from entries)) (resolved_formula entries from) arguments ∙ all))
+    (and_from _ _ number (list_all-mapped (within levels (model_from entries)) (resolved_formula entries from)
+    arguments ∙ all))
 
 -- a formula within some levels in a definition is within as many in the model
 pub formula-within : (levels : ℕ) (entries : Entries) → AreEntries entries → FormulasAt entries levels
 formula-within zero entries are from f fine = absurd (some-level entries from _ [] _ fine)
 formula-within (suc levels) entries are from f fine =
-    let laid = subst (λ (o : Outline). Fine entries (suc levels) from (o ∷ []) (formula_contents f ∷ [])) (outline-of f) fine in
-    let both = subst (λ (c : Contents). Fine entries (suc levels) from (formula_layer (map-DraftFormula DraftFormula Outline formula_outline (out-DraftFormula f)) ∷ []) (c ∷ [])) (contents-of f) laid in
-    ap (within (suc levels) (model_from entries)) (resolved-of entries from f) ∙ layer-within levels entries from are (formula-within levels entries are) (out-DraftFormula f) both
+    let laid = subst (λ (o : Outline). Fine entries (suc levels) from (o ∷ []) (formula_contents f ∷ []))
+    (outline-of f) fine in
+    let both = subst (λ (c : Contents). Fine entries (suc levels) from
+    (formula_layer (map-DraftFormula DraftFormula Outline formula_outline (out-DraftFormula f)) ∷ []) (c ∷ []))
+    (contents-of f) laid in
+    ap (within (suc levels) (model_from entries)) (resolved-of entries from f)
+    ∙ layer-within levels entries from are (formula-within levels entries are) (out-DraftFormula f) both

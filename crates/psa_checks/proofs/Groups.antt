@@ -33,10 +33,12 @@ pub record IsAllowed (entries : Entries) (before : List Entry) (group : Entry) :
   pub most : length (meanings_of_members entries group) ≤ MAX_MEMBERS
   pub no_repeat : has_repeat (meanings_of_members entries group) ≡ false
   pub can_be : list_all (can_be_member entries) (meanings_of_members entries group) ≡ true
-  pub apart : list_any (λ other. have_one_in_common (meanings_of_members entries group) (meanings_of_members entries other)) before ≡ false
+  pub apart : list_any (λ other. have_one_in_common (meanings_of_members entries group)
+      (meanings_of_members entries other)) before ≡ false
   pub levels : body_has_levels group.body ≡ true
 
-six-parts : (a b c d e f : Bool) → (a && b && c && d && e && f) ≡ true → (a ≡ true) × (b ≡ true) × (c ≡ true) × (d ≡ true) × (e ≡ true) × (f ≡ true)
+six-parts : (a b c d e f : Bool) → (a && b && c && d && e && f) ≡ true
+    → (a ≡ true) × (b ≡ true) × (c ≡ true) × (d ≡ true) × (e ≡ true) × (f ≡ true)
 six-parts a b c d e f h =
     let p = and_parts (a && b && c && d && e) f h in
     let q = and_parts (a && b && c && d) e p.0 in
@@ -45,10 +47,14 @@ six-parts a b c d e f h =
     let t = and_parts a b s.0 in
     (t.0, t.1, s.1, r.1, q.1, p.1)
 
-pub allowed-parts : (entries : Entries) (before : List Entry) (group : Entry) → is_allowed_group entries before group ≡ true → IsAllowed entries before group
+pub allowed-parts : (entries : Entries) (before : List Entry) (group : Entry)
+    → is_allowed_group entries before group ≡ true → IsAllowed entries before group
 allowed-parts entries before group h =
     let members = meanings_of_members entries group in
-    let p = six-parts (nat_le MIN_MEMBERS (length members)) (nat_le (length members) MAX_MEMBERS) (not (has_repeat members)) (list_all (can_be_member entries) members) (not (list_any (λ other. have_one_in_common members (meanings_of_members entries other)) before)) (body_has_levels group.body) h in
+    let p = six-parts (nat_le MIN_MEMBERS (length members)) (nat_le (length members) MAX_MEMBERS)
+    (not (has_repeat members)) (list_all (can_be_member entries) members)
+    (not (list_any (λ other. have_one_in_common members (meanings_of_members entries other)) before))
+    (body_has_levels group.body) h in
     record {
       least = leb-true MIN_MEMBERS (length members) p.0;
       most = leb-true (length members) MAX_MEMBERS p.1;
@@ -58,9 +64,11 @@ allowed-parts entries before group h =
       levels = p.5;
     }
 
-pub group-allowed : (entries : Entries) (place : ℕ) (one : Entry) → IsEntry entries place one → one.kind ≡ kind.Group → IsAllowed entries (take place entries) one
+pub group-allowed : (entries : Entries) (place : ℕ) (one : Entry) → IsEntry entries place one → one.kind ≡ kind.Group
+    → IsAllowed entries (take place entries) one
 group-allowed entries place one is kind_is =
-    allowed-parts entries (take place entries) one (is.allowed (ap (λ (k : DefinitionKind). same_family (family_of k) groups) kind_is))
+    allowed-parts entries (take place entries) one
+    (is.allowed (ap (λ (k : DefinitionKind). same_family (family_of k) groups) kind_is))
 
 -- ---- what members stand for
 
@@ -89,30 +97,37 @@ somes-has (Some y ∷ others) x h = elim (has-cases (Some y) (Some x) others h) 
   | inr later ↦ has-later y x (somes others) (somes-has others x later)
 ]
 
-pub somes-length : (entries : Entries) (os : List (Option Meaning)) → list_all (can_be_member entries) os ≡ true → length (somes os) ≡ length os
+pub somes-length : (entries : Entries) (os : List (Option Meaning)) → list_all (can_be_member entries) os ≡ true
+    → length (somes os) ≡ length os
 somes-length entries [] h = refl
 somes-length entries (None ∷ others) h = absurd (false≢true h)
-somes-length entries (Some x ∷ others) h = ap suc (somes-length entries others (and_parts (can_be_member entries (Some x)) _ h).1)
+somes-length entries (Some x ∷ others) h =
+    ap suc (somes-length entries others (and_parts (can_be_member entries (Some x)) _ h).1)
 
 -- the meanings of a group's members
 abbrev pub member_list : Entries → Entry → List Meaning
 member_list entries group = somes (meanings_of_members entries group)
 
-made-somes : {A B C : Type 0} (f : B → C) (g : A → Option B) (xs : List A) → filter_map (λ x. option_map f (g x)) xs ≡ map f (somes (map g xs))
+made-somes : {A B C : Type 0} (f : B → C) (g : A → Option B) (xs : List A)
+    → filter_map (λ x. option_map f (g x)) xs ≡ map f (somes (map g xs))
 made-somes f g [] = refl
 made-somes {A} {B} {C} f g (x ∷ xs) = by_case (g x) (made-somes f g xs)
   where
-    by_case : (o : Option B) → filter_map (λ y. option_map f (g y)) xs ≡ map f (somes (map g xs)) → cons_option (option_map f o) (filter_map (λ y. option_map f (g y)) xs) ≡ map f (somes (o ∷ map g xs))
+    by_case : (o : Option B) → filter_map (λ y. option_map f (g y)) xs ≡ map f (somes (map g xs))
+        → cons_option (option_map f o) (filter_map (λ y. option_map f (g y)) xs) ≡ map f (somes (o ∷ map g xs))
     by_case None rest = rest
     by_case (Some y) rest = ap (λ (zs : List C). f y ∷ zs) rest
 
 -- the ids of members are those of what they stand for
-pub member-ids : (entries : Entries) (group : Entry) → member_ids entries group ≡ map (basic_id entries) (member_list entries group)
-member-ids entries group = made-somes (basic_id entries) (λ (member : DraftReference). meaning_of_event entries group.container member.name) (members_of group.body)
+pub member-ids : (entries : Entries) (group : Entry)
+    → member_ids entries group ≡ map (basic_id entries) (member_list entries group)
+member-ids entries group = made-somes (basic_id entries)
+    (λ (member : DraftReference). meaning_of_event entries group.container member.name) (members_of group.body)
 
 -- ---- a member stands in the model without an expression
 
-no-expression : (entries : Entries) (one : Entry) (b : DraftBody) → has_no_expression b ≡ true → expression_by entries one b ≡ None
+no-expression : (entries : Entries) (one : Entry) (b : DraftBody) → has_no_expression b ≡ true
+    → expression_by entries one b ≡ None
 no-expression entries one (body.Value None) h = refl
 no-expression entries one (body.Value (Some value)) h = absurd (false≢true h)
 no-expression entries one body.Nothing h = refl
@@ -129,40 +144,54 @@ basic-kind-is _ h = absurd (false≢true h)
 
 -- a basic event that can be a member
 abbrev pub IsMemberPair : Entries → Meaning → BasicEvent → Type 0
-IsMemberPair entries m event = (slice_get (model_from entries).basics (basic_id entries m) ≡ Some event) × (event.expression ≡ None) × Has (all_pairs entries) (m, event)
+IsMemberPair entries m event = (slice_get (model_from entries).basics (basic_id entries m) ≡ Some event)
+    × (event.expression ≡ None) × Has (all_pairs entries) (m, event)
 
-own-member : (entries : Entries) (place : ℕ) (found : Option Entry) → slice_get entries place ≡ found → option_map_or (λ one. is_basic_event one.kind && has_no_expression one.body) found false ≡ true → (event : BasicEvent) × IsMemberPair entries (definition place) event
+own-member : (entries : Entries) (place : ℕ) (found : Option Entry) → slice_get entries place ≡ found
+    → option_map_or (λ one. is_basic_event one.kind && has_no_expression one.body) found false ≡ true
+    → (event : BasicEvent) × IsMemberPair entries (definition place) event
 own-member entries place None at h = absurd (false≢true h)
 own-member entries place (Some one) at h =
     let parts = and_parts (is_basic_event one.kind) (has_no_expression one.body) h in
-    let b = basic-pair-at entries (definition place) (own_basic entries one) (own-pair entries place one at (basic-kind-is one.kind parts.0)) in
+    let b = basic-pair-at entries (definition place) (own_basic entries one)
+    (own-pair entries place one at (basic-kind-is one.kind parts.0)) in
     (b.0, (b.1, without (pair-cases entries (definition place, b.0) b.2), b.2))
   where
-    without : {event : BasicEvent} → IsOwn entries (definition place, event) ⊎ IsOfGroup entries (definition place, event) → event.expression ≡ None
+    without : {event : BasicEvent} → IsOwn entries (definition place, event) ⊎ IsOfGroup entries
+        (definition place, event) → event.expression ≡ None
     without {event} (inl own) =
         let number : place ≡ own.place = let k = ap (λ (p : Meaning × BasicEvent). p.0) own.pair_is in cc in
         let same : one ≡ own.one = same_Some one own.one (sym at ∙ ap (slice_get entries) number ∙ own.there) in
-        let says : event.expression ≡ expression_by entries own.one own.one.body = ap (λ (p : Meaning × BasicEvent). p.1.expression) own.pair_is in
-        says ∙ ap (λ (e : Entry). expression_by entries e e.body) (sym same) ∙ no-expression entries one one.body (and_parts (is_basic_event one.kind) (has_no_expression one.body) h).1
+        let says : event.expression ≡ expression_by entries own.one own.one.body =
+        ap (λ (p : Meaning × BasicEvent). p.1.expression) own.pair_is in
+        says ∙ ap (λ (e : Entry). expression_by entries e e.body) (sym same)
+        ∙ no-expression entries one one.body (and_parts (is_basic_event one.kind) (has_no_expression one.body)
+        h).1
     without {event} (inr of) = let k = ap (λ (p : Meaning × BasicEvent). p.0) of.pair_is in absurd (cc)
 
-pub member-pair : (entries : Entries) → AreEntries entries → (m : Meaning) → IsEvent entries m → can_be_member entries (Some m) ≡ true → (event : BasicEvent) × IsMemberPair entries m event
+pub member-pair : (entries : Entries) → AreEntries entries → (m : Meaning) → IsEvent entries m
+    → can_be_member entries (Some m) ≡ true → (event : BasicEvent) × IsMemberPair entries m event
 member-pair entries are (definition place) is h = own-member entries place (slice_get entries place) refl h
 member-pair entries are (of_group name) is h =
     let d = defined-pair entries are name is in
     let b = basic-pair-at entries (of_group name) (group_basic d.1 name) d.4 in
     (b.0, (b.1, without (pair-cases entries (of_group name, b.0) b.2), b.2))
   where
-    without : {event : BasicEvent} → IsOwn entries (of_group name, event) ⊎ IsOfGroup entries (of_group name, event) → event.expression ≡ None
+    without : {event : BasicEvent} → IsOwn entries (of_group name, event) ⊎ IsOfGroup entries (of_group name, event)
+        → event.expression ≡ None
     without {event} (inl own) = let k = ap (λ (p : Meaning × BasicEvent). p.0) own.pair_is in absurd (cc)
     without {event} (inr of) = ap (λ (p : Meaning × BasicEvent). p.1.expression) of.pair_is
 
 -- a meaning among those of a group's members
-pub member-is : (entries : Entries) → AreEntries entries → (group : Entry) → list_all (can_be_member entries) (meanings_of_members entries group) ≡ true → (m : Meaning) → Has (member_list entries group) m → (event : BasicEvent) × IsMemberPair entries m event
+pub member-is : (entries : Entries) → AreEntries entries → (group : Entry)
+    → list_all (can_be_member entries) (meanings_of_members entries group) ≡ true → (m : Meaning)
+    → Has (member_list entries group) m → (event : BasicEvent) × IsMemberPair entries m event
 member-is entries are group can_be m here =
     let among = has-somes (meanings_of_members entries group) m here in
-    let r = from-map (λ (member : DraftReference). meaning_of_event entries group.container member.name) (members_of group.body) (Some m) among in
-    member-pair entries are m (event-at entries group.container r.0.name m r.2) (all-at (can_be_member entries) (meanings_of_members entries group) (Some m) can_be among)
+    let r = from-map (λ (member : DraftReference). meaning_of_event entries group.container member.name)
+    (members_of group.body) (Some m) among in
+    member-pair entries are m (event-at entries group.container r.0.name m r.2)
+    (all-at (can_be_member entries) (meanings_of_members entries group) (Some m) can_be among)
 
 -- ---- members differ
 
@@ -170,7 +199,8 @@ abbrev pub AreDistinct : List Meaning → Type 0
 AreDistinct [] = Unit {0}
 AreDistinct (x ∷ xs) = ((y : Meaning) → Has xs y → x ≡ y → ⊥) × AreDistinct xs
 
-pub distinct-joined : (xs ys : List Meaning) → AreDistinct xs → AreDistinct ys → ((x y : Meaning) → Has xs x → Has ys y → x ≡ y → ⊥) → AreDistinct (xs ++ ys)
+pub distinct-joined : (xs ys : List Meaning) → AreDistinct xs → AreDistinct ys
+    → ((x y : Meaning) → Has xs x → Has ys y → x ≡ y → ⊥) → AreDistinct (xs ++ ys)
 distinct-joined [] ys h k cross = k
 distinct-joined (x ∷ xs) ys h k cross = (
   (λ y here same. elim (append-cases xs ys y here) [
@@ -182,10 +212,13 @@ distinct-joined (x ∷ xs) ys h k cross = (
 
 pub no-repeat-distinct : (os : List (Option Meaning)) → has_repeat os ≡ false → AreDistinct (somes os)
 no-repeat-distinct [] h = tt
-no-repeat-distinct (None ∷ others) h = no-repeat-distinct others (or_parts (list_any (same_meaning None) others) (has_repeat others) h).1
+no-repeat-distinct (None ∷ others) h = no-repeat-distinct others
+    (or_parts (list_any (same_meaning None) others) (has_repeat others) h).1
 no-repeat-distinct (Some x ∷ others) h =
     let parts = or_parts (list_any (same_meaning (Some x)) others) (has_repeat others) h in (
-      (λ y here same. both_ways (list_any (same_meaning (Some x)) others) parts.0 (has-any (same_meaning (Some x)) others (Some y) (has-somes others y here) (subst (λ (z : Meaning). same_meaning (Some x) (Some z) ≡ true) same (same-own x)))),
+      (λ y here same. both_ways (list_any (same_meaning (Some x)) others) parts.0
+          (has-any (same_meaning (Some x)) others (Some y) (has-somes others y here)
+          (subst (λ (z : Meaning). same_meaning (Some x) (Some z) ≡ true) same (same-own x)))),
       no-repeat-distinct others parts.1,
     )
 
@@ -196,13 +229,19 @@ in-front (y ∷ xs) zero (suc n) x l h = (0, h)
 in-front (y ∷ xs) (suc i) (suc n) x l h = has-later y x (take n xs) (in-front xs i n x (omega (arith, l)) h)
 
 -- members of two groups differ
-pub groups-apart : (entries : Entries) → AreEntries entries → (i j : ℕ) (one other : Entry) → i < j → slice_get entries i ≡ Some one → slice_get entries j ≡ Some other → other.kind ≡ kind.Group → (x y : Meaning) → Has (member_list entries one) x → Has (member_list entries other) y → x ≡ y → ⊥
+pub groups-apart : (entries : Entries) → AreEntries entries → (i j : ℕ) (one other : Entry) → i < j
+    → slice_get entries i ≡ Some one → slice_get entries j ≡ Some other → other.kind ≡ kind.Group → (x y : Meaning)
+    → Has (member_list entries one) x → Has (member_list entries other) y → x ≡ y → ⊥
 groups-apart entries are i j one other l first later is x y here there same =
     let allowed = group-allowed entries j other (are j other later) is in
     let common : have_one_in_common (meanings_of_members entries other) (meanings_of_members entries one) ≡ true =
-    has-any (λ o. list_any (same_meaning o) (meanings_of_members entries one)) (meanings_of_members entries other) (Some y) (has-somes (meanings_of_members entries other) y there)
-    (has-any (same_meaning (Some y)) (meanings_of_members entries one) (Some x) (has-somes (meanings_of_members entries one) x here) (subst (λ (z : Meaning). same_meaning (Some y) (Some z) ≡ true) (sym same) (same-own y))) in
-    both_ways _ allowed.apart (has-any (λ before. have_one_in_common (meanings_of_members entries other) (meanings_of_members entries before)) (take j entries) one (in-front entries i j one l first) common)
+    has-any (λ o. list_any (same_meaning o) (meanings_of_members entries one)) (meanings_of_members entries other)
+    (Some y) (has-somes (meanings_of_members entries other) y there)
+    (has-any (same_meaning (Some y)) (meanings_of_members entries one) (Some x)
+    (has-somes (meanings_of_members entries one) x here)
+    (subst (λ (z : Meaning). same_meaning (Some y) (Some z) ≡ true) (sym same) (same-own y))) in
+    both_ways _ allowed.apart (has-any (λ before. have_one_in_common (meanings_of_members entries other)
+    (meanings_of_members entries before)) (take j entries) one (in-front entries i j one l first) common)
 
 -- ---- definitions of a kind stand in order
 
@@ -212,8 +251,10 @@ AreNumbered {A} (x ∷ xs) = ((y : ℕ × A) → Has xs y → x.0 < y.0) × AreN
 
 pub enumerated-ascend : {A : Type 0} (k : ℕ) (xs : List A) → AreNumbered (enumerate_from k xs)
 enumerated-ascend k [] = tt
-enumerated-ascend {A} k (x ∷ xs) =
-    ((λ (y : ℕ × A) here. (let r = enumerated-at (k + 1) xs here.0 y here.1 in let n = r.0 in omega (arith, n))), enumerated-ascend (k + 1) xs)
+enumerated-ascend {A} k (x ∷ xs) = (
+  (λ (y : ℕ × A) here. (let r = enumerated-at (k + 1) xs here.0 y here.1 in let n = r.0 in omega (arith, n))),
+  enumerated-ascend (k + 1) xs,
+)
 
 pub kept-ascend : {A : Type 0} (p : ℕ × A → Bool) (xs : List (ℕ × A)) → AreNumbered xs → AreNumbered (filter p xs)
 kept-ascend p [] h = tt
@@ -223,7 +264,8 @@ kept-ascend {A} p (x ∷ xs) h = elim (cases_Bool (p x)) [
 ]
 
 pub kind-ascends : (its : DefinitionKind) (entries : Entries) → AreNumbered (all_of_kind its entries)
-kind-ascends its entries = kept-ascend (λ one. is_kind its one.1) (enumerate_from 0 entries) (enumerated-ascend 0 entries)
+kind-ascends its entries = kept-ascend (λ one. is_kind its one.1) (enumerate_from 0 entries)
+    (enumerated-ascend 0 entries)
 
 -- ---- all members
 
@@ -231,38 +273,48 @@ kind-ascends its entries = kept-ascend (λ one. is_kind its one.1) (enumerate_fr
 abbrev pub all_members : Entries → List Meaning
 all_members entries = flat_map (λ (one : ℕ × Entry). member_list entries one.1) (all_of_kind kind.Group entries)
 
-members-distinct : (entries : Entries) → AreEntries entries → (some : List (ℕ × Entry)) → AreNumbered some → ((one : ℕ × Entry) → Has some one → (slice_get entries one.0 ≡ Some one.1) × (one.1.kind ≡ kind.Group)) → AreDistinct (flat_map (λ (one : ℕ × Entry). member_list entries one.1) some)
+members-distinct : (entries : Entries) → AreEntries entries → (some : List (ℕ × Entry)) → AreNumbered some
+    → ((one : ℕ × Entry) → Has some one → (slice_get entries one.0 ≡ Some one.1) × (one.1.kind ≡ kind.Group))
+    → AreDistinct (flat_map (λ (one : ℕ × Entry). member_list entries one.1) some)
 members-distinct entries are [] ascend all = tt
 members-distinct entries are (one ∷ some) ascend all =
     let first = all one (has-first one some) in
     let allowed = group-allowed entries one.0 one.1 (are one.0 one.1 first.0) first.1 in
-    distinct-joined (member_list entries one.1) _ (no-repeat-distinct (meanings_of_members entries one.1) allowed.no_repeat)
+    distinct-joined (member_list entries one.1) _
+    (no-repeat-distinct (meanings_of_members entries one.1) allowed.no_repeat)
     (members-distinct entries are some ascend.1 (λ o later. all o (has-later one o some later)))
     (λ x y here there. (let r = from-flat (λ (o : ℕ × Entry). member_list entries o.1) some y there in
     let other = all r.0 (has-later one r.0 some r.1) in
     groups-apart entries are one.0 r.0.0 one.1 r.0.1 (ascend.0 r.0 r.1) first.0 other.0 other.1 x y here r.2))
 
-pub group-at : (entries : Entries) (one : ℕ × Entry) → Has (all_of_kind kind.Group entries) one → (slice_get entries one.0 ≡ Some one.1) × (one.1.kind ≡ kind.Group)
+pub group-at : (entries : Entries) (one : ℕ × Entry) → Has (all_of_kind kind.Group entries) one
+    → (slice_get entries one.0 ≡ Some one.1) × (one.1.kind ≡ kind.Group)
 group-at entries one here = let r = from-made kind.Group entries one here in (r.0, group-kind one.1.kind r.1)
 
 pub all-distinct : (entries : Entries) → AreEntries entries → AreDistinct (all_members entries)
-all-distinct entries are = members-distinct entries are (all_of_kind kind.Group entries) (kind-ascends kind.Group entries) (group-at entries)
+all-distinct entries are = members-distinct entries are (all_of_kind kind.Group entries)
+    (kind-ascends kind.Group entries) (group-at entries)
 
 -- each member is among the basic events
-pub member-among : (entries : Entries) → AreEntries entries → (m : Meaning) → Has (all_members entries) m → Has (all_basics entries) m
+pub member-among : (entries : Entries) → AreEntries entries → (m : Meaning) → Has (all_members entries) m
+    → Has (all_basics entries) m
 member-among entries are m here =
     let r = from-flat (λ (one : ℕ × Entry). member_list entries one.1) (all_of_kind kind.Group entries) m here in
     let g = group-at entries r.0 r.1 in
     let allowed = group-allowed entries r.0.0 r.0.1 (are r.0.0 r.0.1 g.0) g.1 in
     let p = member-is entries are r.0.1 allowed.can_be m r.2 in
-    subst (λ (all : List Meaning). Has all m) (pair-meanings entries) (has-map (λ (pair : Meaning × BasicEvent). pair.0) (all_pairs entries) (m, p.0) p.1.2)
+    subst (λ (all : List Meaning). Has all m) (pair-meanings entries)
+    (has-map (λ (pair : Meaning × BasicEvent). pair.0) (all_pairs entries) (m, p.0) p.1.2)
 
 -- what basic events stand for differs where their ids do
-pub id-exact : (entries : Entries) (a b : Meaning) → Has (all_basics entries) a → Has (all_basics entries) b → basic_id entries a ≡ basic_id entries b → a ≡ b
+pub id-exact : (entries : Entries) (a b : Meaning) → Has (all_basics entries) a → Has (all_basics entries) b
+    → basic_id entries a ≡ basic_id entries b → a ≡ b
 id-exact entries a b here there same =
-    same_Some a b (sym (basic-at entries a here) ∙ ap (slice_get (all_basics entries)) same ∙ basic-at entries b there)
+    same_Some a b (sym (basic-at entries a here) ∙ ap (slice_get (all_basics entries)) same
+    ∙ basic-at entries b there)
 
-pub ids-different : (entries : Entries) (ms : List Meaning) → AreDistinct ms → ((m : Meaning) → Has ms m → Has (all_basics entries) m) → are_different (map (basic_id entries) ms) ≡ true
+pub ids-different : (entries : Entries) (ms : List Meaning) → AreDistinct ms
+    → ((m : Meaning) → Has ms m → Has (all_basics entries) m) → are_different (map (basic_id entries) ms) ≡ true
 ids-different entries [] distinct among = refl
 ids-different entries (m ∷ ms) distinct among =
     and_from _ _
@@ -270,5 +322,6 @@ ids-different entries (m ∷ ms) distinct among =
     (let r = any-from (λ y. y == basic_id entries m) (map (basic_id entries) ms) h in
     let x = from-map (basic_id entries) ms r.0 r.1 in
     let equal = x.2 ∙ eqb-true r.0 (basic_id entries m) r.2 in
-    distinct.0 x.0 x.1 (id-exact entries m x.0 (among m (has-first m ms)) (among x.0 (has-later m x.0 ms x.1)) (sym equal))))))
+    distinct.0 x.0 x.1 (id-exact entries m x.0 (among m (has-first m ms)) (among x.0 (has-later m x.0 ms x.1))
+    (sym equal))))))
     (ids-different entries ms distinct.1 (λ x later. among x (has-later m x ms later)))

@@ -31,11 +31,13 @@ pub is-event-tree : (its : DefinitionKind) → same_family (family_of its) event
 is-event-tree kind.EventTree h = refl
 is-event-tree _ h = absurd (false≢true h)
 
-pub is-initiating : (its : DefinitionKind) → same_family (family_of its) initiating_events ≡ true → its ≡ kind.InitiatingEvent
+pub is-initiating : (its : DefinitionKind) → same_family (family_of its) initiating_events ≡ true
+    → its ≡ kind.InitiatingEvent
 is-initiating kind.InitiatingEvent h = refl
 is-initiating _ h = absurd (false≢true h)
 
-pub is-functional : (its : DefinitionKind) → same_family (family_of its) functional_events ≡ true → its ≡ kind.FunctionalEvent
+pub is-functional : (its : DefinitionKind) → same_family (family_of its) functional_events ≡ true
+    → its ≡ kind.FunctionalEvent
 is-functional kind.FunctionalEvent h = refl
 is-functional _ h = absurd (false≢true h)
 
@@ -52,7 +54,8 @@ is-rule kind.Rule h = refl
 is-rule _ h = absurd (false≢true h)
 
 -- an event is a gate, a basic event or a house event
-pub is-event : (its : DefinitionKind) → same_family (family_of its) events ≡ true → (its ≡ kind.Gate) ⊎ ((its ≡ kind.BasicEvent) ⊎ (its ≡ kind.HouseEvent))
+pub is-event : (its : DefinitionKind) → same_family (family_of its) events ≡ true
+    → (its ≡ kind.Gate) ⊎ ((its ≡ kind.BasicEvent) ⊎ (its ≡ kind.HouseEvent))
 is-event kind.Gate h = inl refl
 is-event kind.BasicEvent h = inr (inl refl)
 is-event kind.HouseEvent h = inr (inr refl)
@@ -68,11 +71,13 @@ pub gate-body : (its : DraftBody) → has_body kind.Gate its ≡ true → (f : D
 gate-body (body.Formula f) h = (f, refl)
 gate-body _ h = absurd (false≢true h)
 
-pub parameter-body : (its : DraftBody) → has_body kind.Parameter its ≡ true → (value : DraftExpression) × (its ≡ body.Value (Some value))
+pub parameter-body : (its : DraftBody) → has_body kind.Parameter its ≡ true
+    → (value : DraftExpression) × (its ≡ body.Value (Some value))
 parameter-body (body.Value (Some value)) h = (value, refl)
 parameter-body _ h = absurd (false≢true h)
 
-pub basic-body : (its : DraftBody) → has_body kind.BasicEvent its ≡ true → (value : Option DraftExpression) × (its ≡ body.Value value)
+pub basic-body : (its : DraftBody) → has_body kind.BasicEvent its ≡ true
+    → (value : Option DraftExpression) × (its ≡ body.Value value)
 basic-body (body.Value value) h = (value, refl)
 basic-body _ h = absurd (false≢true h)
 
@@ -80,23 +85,28 @@ pub group-body : (its : DraftBody) → has_body kind.Group its ≡ true → (gro
 group-body (body.Group group) h = (group, refl)
 group-body _ h = absurd (false≢true h)
 
-pub start-body : (its : DraftBody) → has_body kind.InitiatingEvent its ≡ true → (tree : Option DraftReference) × (its ≡ body.Start tree)
+pub start-body : (its : DraftBody) → has_body kind.InitiatingEvent its ≡ true
+    → (tree : Option DraftReference) × (its ≡ body.Start tree)
 start-body (body.Start tree) h = (tree, refl)
 start-body _ h = absurd (false≢true h)
 
-pub tree-body : (its : DraftBody) → has_body kind.EventTree its ≡ true → (start : DraftBranch) × (its ≡ body.Walk start)
+pub tree-body : (its : DraftBody) → has_body kind.EventTree its ≡ true
+    → (start : DraftBranch) × (its ≡ body.Walk start)
 tree-body (body.Walk start) h = (start, refl)
 tree-body _ h = absurd (false≢true h)
 
-pub branch-body : (its : DraftBody) → has_body kind.Branch its ≡ true → (branch : DraftBranch) × (its ≡ body.Walk branch)
+pub branch-body : (its : DraftBody) → has_body kind.Branch its ≡ true
+    → (branch : DraftBranch) × (its ≡ body.Walk branch)
 branch-body (body.Walk branch) h = (branch, refl)
 branch-body _ h = absurd (false≢true h)
 
-pub sequence-body : (its : DraftBody) → has_body kind.Sequence its ≡ true → (instructions : List DraftInstruction) × (link : Option DraftReference) × (its ≡ body.Steps instructions link)
+pub sequence-body : (its : DraftBody) → has_body kind.Sequence its ≡ true
+    → (instructions : List DraftInstruction) × (link : Option DraftReference) × (its ≡ body.Steps instructions link)
 sequence-body (body.Steps instructions link) h = (instructions, link, refl)
 sequence-body _ h = absurd (false≢true h)
 
-pub rule-body : (its : DraftBody) → has_body kind.Rule its ≡ true → (instructions : List DraftInstruction) × (its ≡ body.Steps instructions None)
+pub rule-body : (its : DraftBody) → has_body kind.Rule its ≡ true
+    → (instructions : List DraftInstruction) × (its ≡ body.Steps instructions None)
 rule-body (body.Steps instructions None) h = (instructions, refl)
 rule-body _ h = absurd (false≢true h)
 
@@ -106,11 +116,13 @@ pub gate-kind : (its : DefinitionKind) → kind_number its == kind_number kind.G
 gate-kind kind.Gate h = refl
 gate-kind _ h = absurd (false≢true h)
 
-pub basic-kind : (its : DefinitionKind) → kind_number its == kind_number kind.BasicEvent ≡ true → its ≡ kind.BasicEvent
+pub basic-kind : (its : DefinitionKind) → kind_number its == kind_number kind.BasicEvent ≡ true
+    → its ≡ kind.BasicEvent
 basic-kind kind.BasicEvent h = refl
 basic-kind _ h = absurd (false≢true h)
 
-pub parameter-kind : (its : DefinitionKind) → kind_number its == kind_number kind.Parameter ≡ true → its ≡ kind.Parameter
+pub parameter-kind : (its : DefinitionKind) → kind_number its == kind_number kind.Parameter ≡ true
+    → its ≡ kind.Parameter
 parameter-kind kind.Parameter h = refl
 parameter-kind _ h = absurd (false≢true h)
 
@@ -118,7 +130,8 @@ pub group-kind : (its : DefinitionKind) → kind_number its == kind_number kind.
 group-kind kind.Group h = refl
 group-kind _ h = absurd (false≢true h)
 
-pub initiating-kind : (its : DefinitionKind) → kind_number its == kind_number kind.InitiatingEvent ≡ true → its ≡ kind.InitiatingEvent
+pub initiating-kind : (its : DefinitionKind) → kind_number its == kind_number kind.InitiatingEvent ≡ true
+    → its ≡ kind.InitiatingEvent
 initiating-kind kind.InitiatingEvent h = refl
 initiating-kind _ h = absurd (false≢true h)
 
@@ -126,7 +139,8 @@ pub tree-kind : (its : DefinitionKind) → kind_number its == kind_number kind.E
 tree-kind kind.EventTree h = refl
 tree-kind _ h = absurd (false≢true h)
 
-pub functional-kind : (its : DefinitionKind) → kind_number its == kind_number kind.FunctionalEvent ≡ true → its ≡ kind.FunctionalEvent
+pub functional-kind : (its : DefinitionKind) → kind_number its == kind_number kind.FunctionalEvent ≡ true
+    → its ≡ kind.FunctionalEvent
 functional-kind kind.FunctionalEvent h = refl
 functional-kind _ h = absurd (false≢true h)
 
@@ -143,16 +157,19 @@ rule-kind kind.Rule h = refl
 rule-kind _ h = absurd (false≢true h)
 
 -- only a group has members, and only definitions of chains collect
-pub body-group : (its : DefinitionKind) (group : DraftGroup) → has_body its (body.Group group) ≡ true → its ≡ kind.Group
+pub body-group : (its : DefinitionKind) (group : DraftGroup) → has_body its (body.Group group) ≡ true
+    → its ≡ kind.Group
 body-group kind.Group group h = refl
 body-group _ group h = absurd (false≢true h)
 
-pub body-steps : (its : DefinitionKind) (instructions : List DraftInstruction) (link : Option DraftReference) → has_body its (body.Steps instructions link) ≡ true → (its ≡ kind.Sequence) ⊎ (its ≡ kind.Rule)
+pub body-steps : (its : DefinitionKind) (instructions : List DraftInstruction) (link : Option DraftReference)
+    → has_body its (body.Steps instructions link) ≡ true → (its ≡ kind.Sequence) ⊎ (its ≡ kind.Rule)
 body-steps kind.Sequence instructions link h = inl refl
 body-steps kind.Rule instructions link h = inr refl
 body-steps _ instructions link h = absurd (false≢true h)
 
-pub body-walk : (its : DefinitionKind) (branch : DraftBranch) → has_body its (body.Walk branch) ≡ true → (its ≡ kind.EventTree) ⊎ (its ≡ kind.Branch)
+pub body-walk : (its : DefinitionKind) (branch : DraftBranch) → has_body its (body.Walk branch) ≡ true
+    → (its ≡ kind.EventTree) ⊎ (its ≡ kind.Branch)
 body-walk kind.EventTree branch h = inl refl
 body-walk kind.Branch branch h = inr refl
 body-walk _ branch h = absurd (false≢true h)

@@ -40,26 +40,38 @@ use Rattle.psa_checks.proofs.Walks.{contents-suc, collected-suc, no-depth, numbe
 -- ---- instructions
 
 nests-collect : (id : FormulaId) → instruction_nesting (instruction.Collect id) ≡ 1
-nests-collect id = ap instruction_nesting (sym (instruction.rolls-Collect id)) ∙ fold-roll-Instruction ℕ instruction_nesting_step (Instruction-F.Collect id)
+nests-collect id = ap instruction_nesting (sym (instruction.rolls-Collect id))
+    ∙ fold-roll-Instruction ℕ instruction_nesting_step (Instruction-F.Collect id)
 
 nests-set : (id : HouseId) (state : Bool) → instruction_nesting (instruction.SetHouse id state) ≡ 1
-nests-set id state = ap instruction_nesting (sym (instruction.rolls-SetHouse id state)) ∙ fold-roll-Instruction ℕ instruction_nesting_step (Instruction-F.SetHouse id state)
+nests-set id state = ap instruction_nesting (sym (instruction.rolls-SetHouse id state))
+    ∙ fold-roll-Instruction ℕ instruction_nesting_step (Instruction-F.SetHouse id state)
 
 nests-rule : (id : RuleId) → instruction_nesting (instruction.Rule id) ≡ 1
-nests-rule id = ap instruction_nesting (sym (instruction.rolls-Rule id)) ∙ fold-roll-Instruction ℕ instruction_nesting_step (Instruction-F.Rule id)
+nests-rule id = ap instruction_nesting (sym (instruction.rolls-Rule id))
+    ∙ fold-roll-Instruction ℕ instruction_nesting_step (Instruction-F.Rule id)
 
-nests-block : (all : List Instruction) → instruction_nesting (instruction.Block all) ≡ suc (greatest (map instruction_nesting all))
-nests-block all = ap instruction_nesting (sym (instruction.rolls-Block all)) ∙ fold-roll-Instruction ℕ instruction_nesting_step (Instruction-F.Block all)
+nests-block : (all : List Instruction)
+    → instruction_nesting (instruction.Block all) ≡ suc (greatest (map instruction_nesting all))
+nests-block all = ap instruction_nesting (sym (instruction.rolls-Block all))
+    ∙ fold-roll-Instruction ℕ instruction_nesting_step (Instruction-F.Block all)
 
-nests-if : (test : Test) (first second : List Instruction) → instruction_nesting (instruction.If test first second) ≡ suc (max (test_nesting test) (greatest (map instruction_nesting first ++ map instruction_nesting second)))
+nests-if : (test : Test) (first second : List Instruction)
+    → instruction_nesting (instruction.If test first second)
+    ≡ suc (max (test_nesting test) (greatest (map instruction_nesting first ++ map instruction_nesting second)))
 nests-if test first second =
-    ap instruction_nesting (sym (instruction.rolls-If test first second)) ∙ fold-roll-Instruction ℕ instruction_nesting_step (Instruction-F.If test first second)
+    ap instruction_nesting (sym (instruction.rolls-If test first second))
+    ∙ fold-roll-Instruction ℕ instruction_nesting_step (Instruction-F.If test first second)
 
 -- each instruction nested within these levels is nested within as many in the model
 abbrev NestedAt : Entries → ℕ → Type 0
-NestedAt entries levels = (from : Entry) (number : ℕ) (i : DraftInstruction) → are_shallow levels (instruction_contents i ∷ []) ≡ true → instruction_nesting ((resolved_instruction entries from i).behind number) ≤ levels
+NestedAt entries levels = (from : Entry) (number : ℕ) (i : DraftInstruction)
+    → are_shallow levels (instruction_contents i ∷ []) ≡ true
+    → instruction_nesting ((resolved_instruction entries from i).behind number) ≤ levels
 
-each-nested : (levels : ℕ) (entries : Entries) (from : Entry) (number : ℕ) → NestedAt entries levels → (all : List DraftInstruction) → are_shallow levels (map instruction_contents all) ≡ true → are_nested levels (all_behind number (map (resolved_instruction entries from) all)) ≡ true
+each-nested : (levels : ℕ) (entries : Entries) (from : Entry) (number : ℕ) → NestedAt entries levels
+    → (all : List DraftInstruction) → are_shallow levels (map instruction_contents all) ≡ true
+    → are_nested levels (all_behind number (map (resolved_instruction entries from) all)) ≡ true
 each-nested levels entries from number at [] h = refl
 each-nested levels entries from number at (i ∷ all) h =
     let parts = and_parts (nat_le (instruction_contents i).nesting levels) _ h in
@@ -67,35 +79,55 @@ each-nested levels entries from number at (i ∷ all) h =
     (le-leb _ levels (at from number i (and_from _ true parts.0 refl)))
     (each-nested levels entries from (number + (resolved_instruction entries from i).size) at all parts.1)
 
-greatest-joined : (levels : ℕ) (ns ms : List ℕ) → greatest ns ≤ levels → greatest ms ≤ levels → greatest (ns ++ ms) ≤ levels
+greatest-joined : (levels : ℕ) (ns ms : List ℕ) → greatest ns ≤ levels → greatest ms ≤ levels
+    → greatest (ns ++ ms) ≤ levels
 greatest-joined levels [] ms h k = k
-greatest-joined levels (n ∷ ns) ms h k = let rest = greatest-joined levels ns ms (omega arith) k in omega (arith, h, rest)
+greatest-joined levels (n ∷ ns) ms h k = let rest = greatest-joined levels ns ms (omega arith) k in omega
+    (arith, h, rest)
 
-instruction-layer : (levels : ℕ) (entries : Entries) (from : Entry) (number : ℕ) → NestedAt entries levels → (x : DraftInstruction-F DraftInstruction) → are_shallow (suc levels) (instruction_step (map-DraftInstruction DraftInstruction Contents instruction_contents x) ∷ []) ≡ true → instruction_nesting ((resolved_instruction_layer entries from (map-DraftInstruction DraftInstruction (Collecting Instruction) (resolved_instruction entries from) x)).behind number) ≤ suc levels
-instruction-layer levels entries from number below (DraftInstruction-F.Collect f) h = let one = nests-collect (record { 0 = number }) in omega (arith, one)
+instruction-layer : (levels : ℕ) (entries : Entries) (from : Entry) (number : ℕ) → NestedAt entries levels
+    → (x : DraftInstruction-F DraftInstruction)
+    → are_shallow (suc levels) (instruction_step
+    (map-DraftInstruction DraftInstruction Contents instruction_contents x) ∷ []) ≡ true
+    → instruction_nesting ((resolved_instruction_layer entries from
+    (map-DraftInstruction DraftInstruction (Collecting Instruction) (resolved_instruction entries from) x)).behind
+    number) ≤ suc levels
+instruction-layer levels entries from number below (DraftInstruction-F.Collect f) h = let one =
+    nests-collect (record { 0 = number }) in omega (arith, one)
 instruction-layer levels entries from number below (DraftInstruction-F.SetHouse name state) h =
-    let one = nests-set (record { 0 = referred_id kind.HouseEvent (event asked.House) entries from name }) state in omega (arith, one)
+    let one = nests-set (record { 0 = referred_id kind.HouseEvent (event asked.House) entries from name })
+    state in omega (arith, one)
 instruction-layer levels entries from number below (DraftInstruction-F.Block all) h =
     let inner = inside-shallow levels true None (map instruction_contents all) h in
-    let nested = greatest-below instruction_nesting levels (all_behind number (map (resolved_instruction entries from) all)) (each-nested levels entries from number below all inner) in
+    let nested = greatest-below instruction_nesting levels
+    (all_behind number (map (resolved_instruction entries from) all))
+    (each-nested levels entries from number below all inner) in
     let more = nests-block (all_behind number (map (resolved_instruction entries from) all)) in
     omega (arith, nested, more)
 instruction-layer levels entries from number below (DraftInstruction-F.Rule name) h =
     let one = nests-rule (record { 0 = referred_id kind.Rule rule entries from name }) in omega (arith, one)
 instruction-layer levels entries from number below (DraftInstruction-F.If test first second) h =
-    let inner = inside-shallow levels (length (map instruction_contents first) == 1 && nat_le (length (map instruction_contents second)) 1) None (test_contents test ∷ map instruction_contents first ++ map instruction_contents second) h in
-    let head = and_parts (nat_le (test_contents test).nesting levels) (are_shallow levels (map instruction_contents first ++ map instruction_contents second)) inner in
-    let rest = all-append (λ (one : Contents). nat_le one.nesting levels) (map instruction_contents first) (map instruction_contents second) head.1 in
+    let inner = inside-shallow levels (length (map instruction_contents first) == 1 && nat_le
+    (length (map instruction_contents second)) 1) None
+    (test_contents test ∷ map instruction_contents first ++ map instruction_contents second) h in
+    let head = and_parts (nat_le (test_contents test).nesting levels)
+    (are_shallow levels (map instruction_contents first ++ map instruction_contents second)) inner in
+    let rest = all-append (λ (one : Contents). nat_le one.nesting levels) (map instruction_contents first)
+    (map instruction_contents second) head.1 in
     let one = all_behind number (map (resolved_instruction entries from) first) in
-    let other = all_behind (number + total_size (map (resolved_instruction entries from) first)) (map (resolved_instruction entries from) second) in
-    let firsts = greatest-below instruction_nesting levels one (each-nested levels entries from number below first rest.0) in
-    let seconds = greatest-below instruction_nesting levels other (each-nested levels entries from _ below second rest.1) in
+    let other = all_behind (number + total_size (map (resolved_instruction entries from) first))
+    (map (resolved_instruction entries from) second) in
+    let firsts = greatest-below instruction_nesting levels one
+    (each-nested levels entries from number below first rest.0) in
+    let seconds = greatest-below instruction_nesting levels other
+    (each-nested levels entries from _ below second rest.1) in
     let both = greatest-joined levels (map instruction_nesting one) (map instruction_nesting other) firsts seconds in
     let tests = test-nested levels entries from test (and_from _ true head.0 refl) in
     let more = nests-if (resolved_test entries from test) one other in
     omega (arith, both, tests, more)
 
-some-instruction : (x : DraftInstruction-F DraftInstruction) → 0 < (instruction_step (map-DraftInstruction DraftInstruction Contents instruction_contents x)).nesting
+some-instruction : (x : DraftInstruction-F DraftInstruction)
+    → 0 < (instruction_step (map-DraftInstruction DraftInstruction Contents instruction_contents x)).nesting
 some-instruction (DraftInstruction-F.Collect f) = omega arith
 some-instruction (DraftInstruction-F.SetHouse name state) = omega arith
 some-instruction (DraftInstruction-F.Block all) = omega arith
@@ -103,57 +135,91 @@ some-instruction (DraftInstruction-F.Rule name) = omega arith
 some-instruction (DraftInstruction-F.If test first second) = omega arith
 
 pub no-instruction : (i : DraftInstruction) → are_shallow 0 (instruction_contents i ∷ []) ≡ true → ⊥
-no-instruction i h = no-nesting (instruction_contents i) (ap (λ (c : Contents). c.nesting) (fold_out-DraftInstruction Contents instruction_step i)) (some-instruction (out-DraftInstruction i)) h
+no-instruction i h = no-nesting (instruction_contents i)
+    (ap (λ (c : Contents). c.nesting) (fold_out-DraftInstruction Contents instruction_step i))
+    (some-instruction (out-DraftInstruction i)) h
 
 pub instruction-nested : (levels : ℕ) (entries : Entries) → NestedAt entries levels
 instruction-nested zero entries from number i h = absurd (no-instruction i h)
 instruction-nested (suc levels) entries from number i h =
-    let own = subst (λ (c : Contents). are_shallow (suc levels) (c ∷ []) ≡ true) (fold_out-DraftInstruction Contents instruction_step i) h in
-    subst (λ (c : Collecting Instruction). instruction_nesting (c.behind number) ≤ suc levels) (sym (fold_out-DraftInstruction (Collecting Instruction) (resolved_instruction_layer entries from) i))
+    let own = subst (λ (c : Contents). are_shallow (suc levels) (c ∷ []) ≡ true)
+    (fold_out-DraftInstruction Contents instruction_step i) h in
+    subst (λ (c : Collecting Instruction). instruction_nesting (c.behind number) ≤ suc levels)
+    (sym (fold_out-DraftInstruction (Collecting Instruction) (resolved_instruction_layer entries from) i))
     (instruction-layer levels entries from number (instruction-nested levels entries) (out-DraftInstruction i) own)
 
 -- instructions nested within some levels in a draft are nested within as many in the model
-pub instructions-nested : (levels : ℕ) (entries : Entries) (from : Entry) (number : ℕ) (all : List DraftInstruction) → are_shallow levels (map instruction_contents all) ≡ true → are_nested levels (all_behind number (map (resolved_instruction entries from) all)) ≡ true
-instructions-nested levels entries from number all h = each-nested levels entries from number (instruction-nested levels entries) all h
+pub instructions-nested : (levels : ℕ) (entries : Entries) (from : Entry) (number : ℕ) (all : List DraftInstruction)
+    → are_shallow levels (map instruction_contents all) ≡ true
+    → are_nested levels (all_behind number (map (resolved_instruction entries from) all)) ≡ true
+instructions-nested levels entries from number all h =
+    each-nested levels entries from number (instruction-nested levels entries) all h
 
 -- ---- branches
 
-pub shallow-suc : (levels depth : ℕ) (b : DraftBranch) → are_shallow levels (branch_contents (suc depth) b ∷ []) ≡ true → (are_shallow levels (map instruction_contents b.instructions) ≡ true) × (are_shallow levels (end_contents (λ below. branch_contents depth below) (out-DraftBranchEnd b.end) ∷ []) ≡ true)
+pub shallow-suc : (levels depth : ℕ) (b : DraftBranch)
+    → are_shallow levels (branch_contents (suc depth) b ∷ []) ≡ true
+    → (are_shallow levels (map instruction_contents b.instructions) ≡ true)
+    × (are_shallow levels (end_contents (λ below. branch_contents depth below) (out-DraftBranchEnd b.end) ∷ [])
+    ≡ true)
 shallow-suc levels depth b h =
     let nested = leb-true (branch_contents (suc depth) b).nesting levels (and_parts _ true h).0 in
     let same = ap (λ (c : Contents). c.nesting) (contents-suc depth b) in
-    all-append (λ (one : Contents). nat_le one.nesting levels) (map instruction_contents b.instructions) (end_contents (λ below. branch_contents depth below) (out-DraftBranchEnd b.end) ∷ [])
+    all-append (λ (one : Contents). nat_le one.nesting levels) (map instruction_contents b.instructions)
+    (end_contents (λ below. branch_contents depth below) (out-DraftBranchEnd b.end) ∷ [])
     (together-shallow levels _ (omega (arith, nested, same)))
 
-pub path-shallow : (levels : ℕ) (below : DraftBranch → Contents) (path : DraftForkPath) → nat_le (path_contents below path).nesting levels ≡ true → are_shallow levels (below path.branch ∷ []) ≡ true
+pub path-shallow : (levels : ℕ) (below : DraftBranch → Contents) (path : DraftForkPath)
+    → nat_le (path_contents below path).nesting levels ≡ true → are_shallow levels (below path.branch ∷ []) ≡ true
 path-shallow levels below path h =
     let nested = leb-true (path_contents below path).nesting levels h in
     and_from _ true (le-leb (below path.branch).nesting levels (omega (arith, nested))) refl
 
 abbrev BranchNestedAt : Entries → ℕ → Type 0
-BranchNestedAt entries depth = (levels : ℕ) (from : Entry) (number : ℕ) (b : DraftBranch) → (branch_contents depth b).has_numbers ≡ true → are_shallow levels (branch_contents depth b ∷ []) ≡ true → is_nested levels (resolved_branch depth entries from number b) ≡ true
+BranchNestedAt entries depth = (levels : ℕ) (from : Entry) (number : ℕ) (b : DraftBranch)
+    → (branch_contents depth b).has_numbers ≡ true → are_shallow levels (branch_contents depth b ∷ []) ≡ true
+    → is_nested levels (resolved_branch depth entries from number b) ≡ true
 
-paths-nested : (levels depth : ℕ) (entries : Entries) (from : Entry) (number : ℕ) → BranchNestedAt entries depth → (paths : List DraftForkPath) → list_all (λ (one : Contents). one.has_numbers) (map (path_contents (λ b. branch_contents depth b)) paths) ≡ true → are_shallow levels (map (path_contents (λ b. branch_contents depth b)) paths) ≡ true → list_all (λ (path : ForkPath). is_nested levels path.branch) (all_behind number (map (resolved_path (λ behind below. resolved_branch depth entries from behind below)) paths)) ≡ true
+paths-nested : (levels depth : ℕ) (entries : Entries) (from : Entry) (number : ℕ) → BranchNestedAt entries depth
+    → (paths : List DraftForkPath)
+    → list_all (λ (one : Contents). one.has_numbers) (map (path_contents (λ b. branch_contents depth b)) paths) ≡ true
+    → are_shallow levels (map (path_contents (λ b. branch_contents depth b)) paths) ≡ true
+    → list_all (λ (path : ForkPath). is_nested levels path.branch)
+    (all_behind number (map (resolved_path (λ behind below. resolved_branch depth entries from behind below)) paths))
+    ≡ true
 paths-nested levels depth entries from number at [] n h = refl
 paths-nested levels depth entries from number at (path ∷ paths) n h =
     let numbers = and_parts (path_contents (λ b. branch_contents depth b) path).has_numbers _ n in
     let parts = and_parts (nat_le (path_contents (λ b. branch_contents depth b) path).nesting levels) _ h in
     and_from _ _
-    (at levels from number path.branch (and_parts _ true numbers.0).0 (path-shallow levels (λ b. branch_contents depth b) path parts.0))
-    (paths-nested levels depth entries from (number + (resolved_path (λ behind below. resolved_branch depth entries from behind below) path).size) at paths numbers.1 parts.1)
+    (at levels from number path.branch (and_parts _ true numbers.0).0
+    (path-shallow levels (λ b. branch_contents depth b) path parts.0))
+    (paths-nested levels depth entries from (number
+    + (resolved_path (λ behind below. resolved_branch depth entries from behind below) path).size)
+    at paths numbers.1 parts.1)
 
-end-nested : (levels depth : ℕ) (entries : Entries) (from : Entry) (number : ℕ) → BranchNestedAt entries depth → (x : DraftBranchEnd-F DraftBranchEnd DraftBranch DraftForkPath) → (end_contents (λ b. branch_contents depth b) x).has_numbers ≡ true → are_shallow (suc levels) (end_contents (λ b. branch_contents depth b) x ∷ []) ≡ true → end_is_nested (λ b. is_nested levels b) (out-BranchEnd (resolved_end entries from (λ behind below. resolved_branch depth entries from behind below) number x)) ≡ true
+end-nested : (levels depth : ℕ) (entries : Entries) (from : Entry) (number : ℕ) → BranchNestedAt entries depth
+    → (x : DraftBranchEnd-F DraftBranchEnd DraftBranch DraftForkPath)
+    → (end_contents (λ b. branch_contents depth b) x).has_numbers ≡ true
+    → are_shallow (suc levels) (end_contents (λ b. branch_contents depth b) x ∷ []) ≡ true
+    → end_is_nested (λ b. is_nested levels b)
+    (out-BranchEnd (resolved_end entries from (λ behind below. resolved_branch depth entries from behind below)
+    number x)) ≡ true
 end-nested levels depth entries from number at (DraftBranchEnd-F.Fork name paths) n h =
     let inner = inside-shallow levels true (Some name) (map (path_contents (λ b. branch_contents depth b)) paths) h in
-    let numbers = sym (together-numbers (map (path_contents (λ b. branch_contents depth b)) paths)) ∙ (and_parts true _ n).1 in
-    rw (out-fork (record { 0 = referred_id kind.FunctionalEvent functional_event entries from name }) (all_behind number (map (resolved_path (λ behind below. resolved_branch depth entries from behind below)) paths)))
+    let numbers = sym (together-numbers (map (path_contents (λ b. branch_contents depth b)) paths))
+    ∙ (and_parts true _ n).1 in
+    rw (out-fork (record { 0 = referred_id kind.FunctionalEvent functional_event entries from name })
+    (all_behind number (map (resolved_path (λ behind below. resolved_branch depth entries from behind below))
+    paths)))
     (paths-nested levels depth entries from number at paths numbers inner)
 end-nested levels depth entries from number at (DraftBranchEnd-F.Sequence name) n h =
     rw (out-to (record { 0 = referred_id kind.Sequence sequence entries from name })) refl
 end-nested levels depth entries from number at (DraftBranchEnd-F.Branch name) n h =
     rw (out-named (record { 0 = referred_id kind.Branch branch entries from name })) refl
 
-end-some : (below : DraftBranch → Contents) (x : DraftBranchEnd-F DraftBranchEnd DraftBranch DraftForkPath) → 0 < (end_contents below x).nesting
+end-some : (below : DraftBranch → Contents) (x : DraftBranchEnd-F DraftBranchEnd DraftBranch DraftForkPath)
+    → 0 < (end_contents below x).nesting
 end-some below (DraftBranchEnd-F.Fork name paths) = omega arith
 end-some below (DraftBranchEnd-F.Sequence name) = omega arith
 end-some below (DraftBranchEnd-F.Branch name) = omega arith
@@ -162,64 +228,95 @@ pub branch-nested : (depth : ℕ) (entries : Entries) → BranchNestedAt entries
 unfolding is_nested resolved_branch
 branch-nested zero entries levels from number b n h = absurd (no-depth b n)
 branch-nested (suc depth) entries zero from number b n h =
-    absurd (no-nesting (end_contents (λ below. branch_contents depth below) (out-DraftBranchEnd b.end)) refl (end-some _ (out-DraftBranchEnd b.end)) (shallow-suc zero depth b h).1)
+    absurd (no-nesting (end_contents (λ below. branch_contents depth below) (out-DraftBranchEnd b.end)) refl
+    (end-some _ (out-DraftBranchEnd b.end)) (shallow-suc zero depth b h).1)
 branch-nested (suc depth) entries (suc levels) from number b n h =
     let numbers = numbers-suc depth b n in
     let parts = shallow-suc (suc levels) depth b h in
     and_from _ _
     (instructions-nested (suc levels) entries from number b.instructions parts.0)
-    (end-nested levels depth entries from _ (branch-nested depth entries) (out-DraftBranchEnd b.end) numbers.1 parts.1)
+    (end-nested levels depth entries from _ (branch-nested depth entries) (out-DraftBranchEnd b.end)
+    numbers.1 parts.1)
 
 -- ---- collected formulas
 
 abbrev nests_within : ℕ → Entries → Entry → DraftFormula → Bool
 nests_within levels entries from f = nat_le (formula_nesting (resolved_formula entries from f)) levels
 
-nests-more : (levels : ℕ) (entries : Entries) (from : Entry) (fs : List DraftFormula) → list_all (nests_within levels entries from) fs ≡ true → list_all (nests_within (suc levels) entries from) fs ≡ true
+nests-more : (levels : ℕ) (entries : Entries) (from : Entry) (fs : List DraftFormula)
+    → list_all (nests_within levels entries from) fs ≡ true
+    → list_all (nests_within (suc levels) entries from) fs ≡ true
 nests-more levels entries from fs h =
     all-more (nests_within levels entries from) (nests_within (suc levels) entries from) fs
-    (λ f k. let nested = leb-true (formula_nesting (resolved_formula entries from f)) levels k in le-leb (formula_nesting (resolved_formula entries from f)) (suc levels) (omega (arith, nested))) h
+    (λ f k. let nested = leb-true (formula_nesting (resolved_formula entries from f)) levels k in le-leb
+    (formula_nesting (resolved_formula entries from f)) (suc levels) (omega (arith, nested))) h
 
 abbrev CollectedAt : Entries → ℕ → Type 0
-CollectedAt entries levels = (from : Entry) (i : DraftInstruction) → are_shallow levels (instruction_contents i ∷ []) ≡ true → list_all (nests_within levels entries from) (collected_by i) ≡ true
+CollectedAt entries levels = (from : Entry) (i : DraftInstruction) → are_shallow levels (instruction_contents i ∷ [])
+    ≡ true → list_all (nests_within levels entries from) (collected_by i) ≡ true
 
-each-collected : (levels : ℕ) (entries : Entries) (from : Entry) → CollectedAt entries levels → (all : List DraftInstruction) → are_shallow levels (map instruction_contents all) ≡ true → list_all (nests_within levels entries from) (flat_map (λ fs. fs) (map collected_by all)) ≡ true
+each-collected : (levels : ℕ) (entries : Entries) (from : Entry) → CollectedAt entries levels
+    → (all : List DraftInstruction) → are_shallow levels (map instruction_contents all) ≡ true
+    → list_all (nests_within levels entries from) (flat_map (λ fs. fs) (map collected_by all)) ≡ true
 each-collected levels entries from at [] h = refl
 each-collected levels entries from at (i ∷ all) h =
     let parts = and_parts (nat_le (instruction_contents i).nesting levels) _ h in
-    all-joined (nests_within levels entries from) (collected_by i) _ (at from i (and_from _ true parts.0 refl)) (each-collected levels entries from at all parts.1)
+    all-joined (nests_within levels entries from) (collected_by i) _ (at from i (and_from _ true parts.0 refl))
+    (each-collected levels entries from at all parts.1)
 
-collected-layer : (levels : ℕ) (entries : Entries) (from : Entry) → CollectedAt entries levels → (x : DraftInstruction-F DraftInstruction) → are_shallow (suc levels) (instruction_step (map-DraftInstruction DraftInstruction Contents instruction_contents x) ∷ []) ≡ true → list_all (nests_within (suc levels) entries from) (collected_layer (map-DraftInstruction DraftInstruction (List DraftFormula) collected_by x)) ≡ true
+collected-layer : (levels : ℕ) (entries : Entries) (from : Entry) → CollectedAt entries levels
+    → (x : DraftInstruction-F DraftInstruction)
+    → are_shallow (suc levels) (instruction_step
+    (map-DraftInstruction DraftInstruction Contents instruction_contents x) ∷ []) ≡ true
+    → list_all (nests_within (suc levels) entries from)
+    (collected_layer (map-DraftInstruction DraftInstruction (List DraftFormula) collected_by x)) ≡ true
 collected-layer levels entries from below (DraftInstruction-F.Collect f) h =
     let inner = inside-shallow levels true None (formula_contents f ∷ []) h in
     let nested = formula-nested levels entries from f inner in
-    and_from _ true (le-leb (formula_nesting (resolved_formula entries from f)) (suc levels) (omega (arith, nested))) refl
+    and_from _ true (le-leb (formula_nesting (resolved_formula entries from f)) (suc levels) (omega (arith, nested)))
+    refl
 collected-layer levels entries from below (DraftInstruction-F.SetHouse name state) h = refl
 collected-layer levels entries from below (DraftInstruction-F.Block all) h =
     let inner = inside-shallow levels true None (map instruction_contents all) h in
     nests-more levels entries from _ (each-collected levels entries from below all inner)
 collected-layer levels entries from below (DraftInstruction-F.Rule name) h = refl
 collected-layer levels entries from below (DraftInstruction-F.If test first second) h =
-    let inner = inside-shallow levels (length (map instruction_contents first) == 1 && nat_le (length (map instruction_contents second)) 1) None (test_contents test ∷ map instruction_contents first ++ map instruction_contents second) h in
-    let head = and_parts (nat_le (test_contents test).nesting levels) (are_shallow levels (map instruction_contents first ++ map instruction_contents second)) inner in
-    let rest = all-append (λ (one : Contents). nat_le one.nesting levels) (map instruction_contents first) (map instruction_contents second) head.1 in
-    nests-more levels entries from _ (all-joined (nests_within levels entries from) _ _ (each-collected levels entries from below first rest.0) (each-collected levels entries from below second rest.1))
+    let inner = inside-shallow levels (length (map instruction_contents first) == 1 && nat_le
+    (length (map instruction_contents second)) 1) None
+    (test_contents test ∷ map instruction_contents first ++ map instruction_contents second) h in
+    let head = and_parts (nat_le (test_contents test).nesting levels)
+    (are_shallow levels (map instruction_contents first ++ map instruction_contents second)) inner in
+    let rest = all-append (λ (one : Contents). nat_le one.nesting levels) (map instruction_contents first)
+    (map instruction_contents second) head.1 in
+    nests-more levels entries from _ (all-joined (nests_within levels entries from) _ _
+    (each-collected levels entries from below first rest.0)
+    (each-collected levels entries from below second rest.1))
 
 collected-nested : (levels : ℕ) (entries : Entries) → CollectedAt entries levels
 collected-nested zero entries from i h = absurd (no-instruction i h)
 collected-nested (suc levels) entries from i h =
-    let own = subst (λ (c : Contents). are_shallow (suc levels) (c ∷ []) ≡ true) (fold_out-DraftInstruction Contents instruction_step i) h in
-    subst (λ (fs : List DraftFormula). list_all (nests_within (suc levels) entries from) fs ≡ true) (sym (fold_out-DraftInstruction (List DraftFormula) collected_layer i))
+    let own = subst (λ (c : Contents). are_shallow (suc levels) (c ∷ []) ≡ true)
+    (fold_out-DraftInstruction Contents instruction_step i) h in
+    subst (λ (fs : List DraftFormula). list_all (nests_within (suc levels) entries from) fs ≡ true)
+    (sym (fold_out-DraftInstruction (List DraftFormula) collected_layer i))
     (collected-layer levels entries from (collected-nested levels entries) (out-DraftInstruction i) own)
 
 -- the formulas that instructions collect are nested within their levels
-pub steps-collected : (levels : ℕ) (entries : Entries) (from : Entry) (all : List DraftInstruction) → are_shallow levels (map instruction_contents all) ≡ true → list_all (nests_within levels entries from) (flat_map collected_by all) ≡ true
+pub steps-collected : (levels : ℕ) (entries : Entries) (from : Entry) (all : List DraftInstruction)
+    → are_shallow levels (map instruction_contents all) ≡ true
+    → list_all (nests_within levels entries from) (flat_map collected_by all) ≡ true
 steps-collected levels entries from [] h = refl
 steps-collected levels entries from (i ∷ all) h =
     let parts = and_parts (nat_le (instruction_contents i).nesting levels) _ h in
-    all-joined (nests_within levels entries from) (collected_by i) _ (collected-nested levels entries from i (and_from _ true parts.0 refl)) (steps-collected levels entries from all parts.1)
+    all-joined (nests_within levels entries from) (collected_by i) _
+    (collected-nested levels entries from i (and_from _ true parts.0 refl))
+    (steps-collected levels entries from all parts.1)
 
-paths-collected : (levels depth : ℕ) (entries : Entries) (from : Entry) → ((b : DraftBranch) → are_shallow levels (branch_contents depth b ∷ []) ≡ true → list_all (nests_within levels entries from) (branch_collected depth b) ≡ true) → (paths : List DraftForkPath) → are_shallow levels (map (path_contents (λ b. branch_contents depth b)) paths) ≡ true → list_all (nests_within levels entries from) (flat_map (λ path. branch_collected depth path.branch) paths) ≡ true
+paths-collected : (levels depth : ℕ) (entries : Entries) (from : Entry)
+    → ((b : DraftBranch) → are_shallow levels (branch_contents depth b ∷ []) ≡ true
+    → list_all (nests_within levels entries from) (branch_collected depth b) ≡ true) → (paths : List DraftForkPath)
+    → are_shallow levels (map (path_contents (λ b. branch_contents depth b)) paths) ≡ true
+    → list_all (nests_within levels entries from) (flat_map (λ path. branch_collected depth path.branch) paths) ≡ true
 paths-collected levels depth entries from at [] h = refl
 paths-collected levels depth entries from at (path ∷ paths) h =
     let parts = and_parts (nat_le (path_contents (λ b. branch_contents depth b) path).nesting levels) _ h in
@@ -227,10 +324,17 @@ paths-collected levels depth entries from at (path ∷ paths) h =
     (at path.branch (path-shallow levels (λ b. branch_contents depth b) path parts.0))
     (paths-collected levels depth entries from at paths parts.1)
 
-end-collected-nested : (levels depth : ℕ) (entries : Entries) (from : Entry) → ((b : DraftBranch) → are_shallow levels (branch_contents depth b ∷ []) ≡ true → list_all (nests_within levels entries from) (branch_collected depth b) ≡ true) → (x : DraftBranchEnd-F DraftBranchEnd DraftBranch DraftForkPath) → are_shallow levels (end_contents (λ b. branch_contents depth b) x ∷ []) ≡ true → list_all (nests_within levels entries from) (end_collected (λ b. branch_collected depth b) x) ≡ true
+end-collected-nested : (levels depth : ℕ) (entries : Entries) (from : Entry)
+    → ((b : DraftBranch) → are_shallow levels (branch_contents depth b ∷ []) ≡ true
+    → list_all (nests_within levels entries from) (branch_collected depth b) ≡ true)
+    → (x : DraftBranchEnd-F DraftBranchEnd DraftBranch DraftForkPath)
+    → are_shallow levels (end_contents (λ b. branch_contents depth b) x ∷ []) ≡ true
+    → list_all (nests_within levels entries from) (end_collected (λ b. branch_collected depth b) x) ≡ true
 end-collected-nested levels depth entries from at (DraftBranchEnd-F.Fork name paths) h =
-    let nested = leb-true (end_contents (λ b. branch_contents depth b) (DraftBranchEnd-F.Fork name paths)).nesting levels (and_parts _ true h).0 in
-    paths-collected levels depth entries from at paths (together-shallow levels (map (path_contents (λ b. branch_contents depth b)) paths) (omega (arith, nested)))
+    let nested = leb-true (end_contents (λ b. branch_contents depth b) (DraftBranchEnd-F.Fork name paths)).nesting
+    levels (and_parts _ true h).0 in
+    paths-collected levels depth entries from at paths
+    (together-shallow levels (map (path_contents (λ b. branch_contents depth b)) paths) (omega (arith, nested)))
 end-collected-nested levels depth entries from at (DraftBranchEnd-F.Sequence name) h = refl
 end-collected-nested levels depth entries from at (DraftBranchEnd-F.Branch name) h = refl
 
@@ -243,11 +347,15 @@ unfolding branch_collected
 none-collected-empty b = refl
 
 -- the formulas that a branch collects are nested within its levels
-pub branch-collected-nested : (depth levels : ℕ) (entries : Entries) (from : Entry) (b : DraftBranch) → are_shallow levels (branch_contents depth b ∷ []) ≡ true → list_all (nests_within levels entries from) (branch_collected depth b) ≡ true
+pub branch-collected-nested : (depth levels : ℕ) (entries : Entries) (from : Entry) (b : DraftBranch)
+    → are_shallow levels (branch_contents depth b ∷ []) ≡ true
+    → list_all (nests_within levels entries from) (branch_collected depth b) ≡ true
 branch-collected-nested zero levels entries from b h = none-collected (nests_within levels entries from) b
 branch-collected-nested (suc depth) levels entries from b h =
     let parts = shallow-suc levels depth b h in
-    subst (λ (fs : List DraftFormula). list_all (nests_within levels entries from) fs ≡ true) (sym (collected-suc depth b))
+    subst (λ (fs : List DraftFormula). list_all (nests_within levels entries from) fs ≡ true)
+    (sym (collected-suc depth b))
     (all-joined (nests_within levels entries from) (flat_map collected_by b.instructions) _
     (steps-collected levels entries from b.instructions parts.0)
-    (end-collected-nested levels depth entries from (branch-collected-nested depth levels entries from) (out-DraftBranchEnd b.end) parts.1))
+    (end-collected-nested levels depth entries from (branch-collected-nested depth levels entries from)
+    (out-DraftBranchEnd b.end) parts.1))

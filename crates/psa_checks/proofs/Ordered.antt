@@ -89,7 +89,9 @@ abbrev IsSorted : List Entry → Type 0
 IsSorted [] = Unit {0}
 IsSorted (one ∷ others) = ((other : Entry) → Has others other → contents_before one other ≡ true) × IsSorted others
 
-placed-sorted : (one : Entry) (xs : List Entry) → IsSorted xs → ((y : Entry) → Has xs y → contents_before y one ≡ false → contents_before one y ≡ true) → IsSorted (placed one xs)
+placed-sorted : (one : Entry) (xs : List Entry) → IsSorted xs
+    → ((y : Entry) → Has xs y → contents_before y one ≡ false → contents_before one y ≡ true)
+    → IsSorted (placed one xs)
 placed-sorted one [] sorted total = ((λ y h. absurd (has-none y h)), tt)
 placed-sorted one (other ∷ others) sorted total = elim (cases_Bool (contents_before other one)) [
   | inl before ↦ rw before (
@@ -113,7 +115,8 @@ placed-sorted one (other ∷ others) sorted total = elim (cases_Bool (contents_b
 by-sorted : (xs : List Entry) → IsAscending xs → IsSorted (by_contents xs)
 by-sorted [] ascending = tt
 by-sorted (x ∷ xs) ascending =
-    placed-sorted x (by_contents xs) (by-sorted xs ascending.1) (λ y h. contents-total x y (ascending.0 y (from-by xs y h)))
+    placed-sorted x (by_contents xs) (by-sorted xs ascending.1)
+    (λ y h. contents-total x y (ascending.0 y (from-by xs y h)))
 
 -- ---- places
 
@@ -121,28 +124,36 @@ by-sorted (x ∷ xs) ascending =
 abbrev before : (Entry → ℕ) → Entry → Entry → ℕ
 before f one y = if contents_before y one then f y else 0
 
-none-before : (f : Entry → ℕ) (one : Entry) (xs : List Entry) → ((y : Entry) → Has xs y → contents_before y one ≡ false) → weigh (before f one) xs ≡ 0
+none-before : (f : Entry → ℕ) (one : Entry) (xs : List Entry)
+    → ((y : Entry) → Has xs y → contents_before y one ≡ false) → weigh (before f one) xs ≡ 0
 none-before f one [] none = refl
 none-before f one (x ∷ xs) none =
     let here = none x (has-first x xs) in
     let rest = none-before f one xs (λ y h. none y (has-later x y xs h)) in
     rw here (omega (arith, rest))
 
-part-at : {B : Type 0} (g : Entry → List B) (one : Entry) (xs : List Entry) → IsSorted xs → Has xs one → (k : ℕ) (v : B) → slice_get (g one) k ≡ Some v → slice_get (flat_map g xs) (weigh (before (λ y. length (g y)) one) xs + k) ≡ Some v
+part-at : {B : Type 0} (g : Entry → List B) (one : Entry) (xs : List Entry) → IsSorted xs → Has xs one
+    → (k : ℕ) (v : B) → slice_get (g one) k ≡ Some v
+    → slice_get (flat_map g xs) (weigh (before (λ y. length (g y)) one) xs + k) ≡ Some v
 part-at g one [] sorted here k v h = absurd (has-none one here)
 part-at {B} g one (x ∷ xs) sorted here k v h = elim (has-cases x one xs here) [
   | inl same ↦
       let before_other = subst (λ (z : Entry). (y : Entry) → Has xs y → contents_before z y ≡ true) same sorted.0 in
-      let own : contents_before one one ≡ false = false_from_ne_true (contents_before one one) (λ t. contents-never one one t t) in
+      let own : contents_before one one ≡ false =
+      false_from_ne_true (contents_before one one) (λ t. contents-never one one t t) in
       let not_first : contents_before x one ≡ false = ap (λ (z : Entry). contents_before z one) same ∙ own in
-      let none = none-before (λ y. length (g y)) one xs (λ y there. false_from_ne_true (contents_before y one) (λ t. contents-never one y (before_other y there) t)) in
+      let none = none-before (λ y. length (g y)) one xs
+      (λ y there. false_from_ne_true (contents_before y one)
+      (λ t. contents-never one y (before_other y there) t)) in
       let here_zero : before (λ y. length (g y)) one x ≡ 0 = rw not_first refl in
       let number : weigh (before (λ y. length (g y)) one) (x ∷ xs) + k ≡ k = omega (arith, none, here_zero) in
-      ap (slice_get (flat_map g (x ∷ xs))) number ∙ get-left (g x) (flat_map g xs) k v (ap (λ (z : Entry). slice_get (g z) k) same ∙ h)
+      ap (slice_get (flat_map g (x ∷ xs))) number
+      ∙ get-left (g x) (flat_map g xs) k v (ap (λ (z : Entry). slice_get (g z) k) same ∙ h)
   | inr later ↦
       let first = sorted.0 one later in
       let length_first : before (λ y. length (g y)) one x ≡ length (g x) = rw first refl in
-      let number : weigh (before (λ y. length (g y)) one) (x ∷ xs) + k ≡ length (g x) + (weigh (before (λ y. length (g y)) one) xs + k) = omega (arith, length_first) in
+      let number : weigh (before (λ y. length (g y)) one) (x ∷ xs) + k ≡ length (g x)
+      + (weigh (before (λ y. length (g y)) one) xs + k) = omega (arith, length_first) in
       ap (slice_get (flat_map g (x ∷ xs))) number
       ∙ get-right (g x) (flat_map g xs) (weigh (before (λ y. length (g y)) one) xs + k)
       ∙ part-at g one xs sorted.1 later k v h
@@ -156,10 +167,13 @@ weigh-same f g same (x ∷ xs) = ap₂ (λ (a b : ℕ). a + b) (same x) (weigh-s
 pub all-sit : (entries : Entries) → IsAscending entries → AllSit entries
 all-sit entries ascending place one there k f h =
     let g = λ (y : Entry). map (resolved_formula entries y) (collected_in y.body) in
-    let at = part-at g one (by_contents entries) (by-sorted entries ascending) (has-by entries one (place, there)) k (resolved_formula entries one f)
-    (slice_get-map (resolved_formula entries one) (collected_in one.body) k ∙ ap (option_map (resolved_formula entries one)) h) in
+    let at = part-at g one (by_contents entries) (by-sorted entries ascending) (has-by entries one (place, there)) k
+    (resolved_formula entries one f)
+    (slice_get-map (resolved_formula entries one) (collected_in one.body) k
+    ∙ ap (option_map (resolved_formula entries one)) h) in
     let number : collected_before entries one ≡ weigh (before (λ y. length (g y)) one) (by_contents entries) =
     sum-weigh (before (λ y. length (collected_in y.body)) one) entries
-    ∙ weigh-same _ _ (λ y. ap (λ (n : ℕ). if contents_before y one then n else 0) (sym (length-map (collected_in y.body) (resolved_formula entries y)))) entries
+    ∙ weigh-same _ _ (λ y. ap (λ (n : ℕ). if contents_before y one then n else 0)
+    (sym (length-map (collected_in y.body) (resolved_formula entries y)))) entries
     ∙ sym (weigh-by (before (λ y. length (g y)) one) entries) in
     ap (λ (n : ℕ). slice_get (model_from entries).formulas (n + k)) number ∙ at

@@ -38,17 +38,23 @@ use Rattle.psa_checks.proofs.Groups.{group-allowed, somes-has, member_list, memb
 
 -- ---- lists
 
-map-flat-in : {A B : Type 0} (f g : A → List B) (xs : List A) → ((x : A) → Has xs x → f x ≡ g x) → flat_map f xs ≡ flat_map g xs
+map-flat-in : {A B : Type 0} (f g : A → List B) (xs : List A) → ((x : A) → Has xs x → f x ≡ g x)
+    → flat_map f xs ≡ flat_map g xs
 map-flat-in f g [] same = refl
-map-flat-in {A} {B} f g (x ∷ xs) same = ap₂ (λ (one rest : List B). one ++ rest) (same x (has-first x xs)) (map-flat-in f g xs (λ y later. same y (has-later x y xs later)))
+map-flat-in {A} {B} f g (x ∷ xs) same = ap₂ (λ (one rest : List B). one ++ rest) (same x (has-first x xs))
+    (map-flat-in f g xs (λ y later. same y (has-later x y xs later)))
 
-made-flat : {A B C : Type 0} (h : B → Option C) (f : A → List B) (xs : List A) → filter_map h (flat_map f xs) ≡ flat_map (λ x. filter_map h (f x)) xs
+made-flat : {A B C : Type 0} (h : B → Option C) (f : A → List B) (xs : List A)
+    → filter_map h (flat_map f xs) ≡ flat_map (λ x. filter_map h (f x)) xs
 made-flat h f [] = refl
-made-flat {A} {B} {C} h f (x ∷ xs) = filter_map-append h (f x) (flat_map f xs) ∙ ap (λ (rest : List C). filter_map h (f x) ++ rest) (made-flat h f xs)
+made-flat {A} {B} {C} h f (x ∷ xs) = filter_map-append h (f x) (flat_map f xs)
+    ∙ ap (λ (rest : List C). filter_map h (f x) ++ rest) (made-flat h f xs)
 
-kept-flat : {A B : Type 0} (p : B → Bool) (f : A → List B) (xs : List A) → filter p (flat_map f xs) ≡ flat_map (λ x. filter p (f x)) xs
+kept-flat : {A B : Type 0} (p : B → Bool) (f : A → List B) (xs : List A)
+    → filter p (flat_map f xs) ≡ flat_map (λ x. filter p (f x)) xs
 kept-flat p f [] = refl
-kept-flat {A} {B} p f (x ∷ xs) = filter-append p (f x) (flat_map f xs) ∙ ap (λ (rest : List B). filter p (f x) ++ rest) (kept-flat p f xs)
+kept-flat {A} {B} p f (x ∷ xs) = filter-append p (f x) (flat_map f xs)
+    ∙ ap (λ (rest : List B). filter p (f x) ++ rest) (kept-flat p f xs)
 
 or-or : (a b c : Bool) → (a || (b || c)) ≡ ((a || b) || c)
 or-or true b c = refl
@@ -58,11 +64,13 @@ any-append : {A : Type 0} (p : A → Bool) (ys zs : List A) → list_any p (ys +
 any-append p [] zs = refl
 any-append p (y ∷ ys) zs = ap (λ b. p y || b) (any-append p ys zs) ∙ or-or (p y) (list_any p ys) (list_any p zs)
 
-any-flat : {A B : Type 0} (p : B → Bool) (f : A → List B) (xs : List A) → list_any p (flat_map f xs) ≡ list_any (λ x. list_any p (f x)) xs
+any-flat : {A B : Type 0} (p : B → Bool) (f : A → List B) (xs : List A)
+    → list_any p (flat_map f xs) ≡ list_any (λ x. list_any p (f x)) xs
 any-flat p f [] = refl
 any-flat p f (x ∷ xs) = any-append p (f x) (flat_map f xs) ∙ ap (λ b. list_any p (f x) || b) (any-flat p f xs)
 
-flat-of-map : {A B C : Type 0} (f : B → List C) (g : A → B) (xs : List A) → flat_map f (map g xs) ≡ flat_map (λ x. f (g x)) xs
+flat-of-map : {A B C : Type 0} (f : B → List C) (g : A → B) (xs : List A)
+    → flat_map f (map g xs) ≡ flat_map (λ x. f (g x)) xs
 flat-of-map f g [] = refl
 flat-of-map {A} {B} {C} f g (x ∷ xs) = ap (λ (rest : List C). f (g x) ++ rest) (flat-of-map f g xs)
 
@@ -70,19 +78,22 @@ none-kept : {A : Type 0} (p : A → Bool) (xs : List A) → ((x : A) → Has xs 
 none-kept p [] none = refl
 none-kept p (x ∷ xs) none = rw (none x (has-first x xs)) (none-kept p xs (λ y later. none y (has-later x y xs later)))
 
-pub flat-kept : {A B : Type 0} (p : A → Bool) (f : A → B) (xs : List A) → flat_map (λ x. cond (p x) (f x ∷ []) []) xs ≡ map f (filter p xs)
+pub flat-kept : {A B : Type 0} (p : A → Bool) (f : A → B) (xs : List A)
+    → flat_map (λ x. cond (p x) (f x ∷ []) []) xs ≡ map f (filter p xs)
 flat-kept p f [] = refl
 flat-kept {A} {B} p f (x ∷ xs) = elim (cases_Bool (p x)) [
   | inl passes ↦ rw passes (ap (λ (rest : List B). f x ∷ rest) (flat-kept p f xs))
   | inr fails ↦ rw fails (flat-kept p f xs)
 ]
 
-map-range : {A : Type 0} (f : A → ℕ) (k : ℕ) (xs : List A) → ((i : ℕ) (x : A) → slice_get xs i ≡ Some x → f x ≡ k + i) → map f xs ≡ range_with_len k (length xs)
+map-range : {A : Type 0} (f : A → ℕ) (k : ℕ) (xs : List A) → ((i : ℕ) (x : A) → slice_get xs i ≡ Some x → f x ≡ k + i)
+    → map f xs ≡ range_with_len k (length xs)
 map-range f k [] at = refl
 map-range f k (x ∷ xs) at =
     let here = at 0 x refl in
     let first : f x ≡ k = omega (arith, here) in
-    ap₂ (λ (n : ℕ) (ns : List ℕ). n ∷ ns) first (map-range f (k + 1) xs (λ i y h. (let later = at (suc i) y h in omega (arith, later))))
+    ap₂ (λ (n : ℕ) (ns : List ℕ). n ∷ ns) first
+    (map-range f (k + 1) xs (λ i y h. (let later = at (suc i) y h in omega (arith, later))))
 
 -- ---- the members of the model
 
@@ -96,18 +107,30 @@ group_by entries one (body.Group group) = record {
   distribution = resolved_expression entries one group.distribution;
   factors = by_level (map (factor_of entries one (length group.members)) group.factors);
 }
-group_by entries one _ = record { name = one.name; place = one.place; model = Beta; members = []; distribution = expression.MissionTime; factors = [] }
+group_by entries one _ = record {
+  name = one.name;
+  place = one.place;
+  model = Beta;
+  members = [];
+  distribution = expression.MissionTime;
+  factors = [];
+}
 
-pub group-says : (entries : Entries) (one : Entry) (its : DraftBody) → one.body ≡ its → group_of entries one ≡ group_by entries one its
+pub group-says : (entries : Entries) (one : Entry) (its : DraftBody) → one.body ≡ its
+    → group_of entries one ≡ group_by entries one its
 group-says entries one its is = ap (group_by entries one) is
 
 own-ids : (ids : List ℕ) → map (λ (id : EventId). id.0) (map (λ id. record { 0 = id }) ids) ≡ ids
 own-ids ids = map-map (λ (id : EventId). id.0) (λ id. record { 0 = id }) ids ∙ map-id ids
 
-no-members : (entries : Entries) (one : Entry) (its : DraftBody) → one.body ≡ its → members_of its ≡ [] → member_ids entries one ≡ []
-no-members entries one its is none = ap (λ (ms : List DraftReference). filter_map (λ member. option_map (basic_id entries) (meaning_of_event entries one.container member.name)) ms) (ap members_of is ∙ none)
+no-members : (entries : Entries) (one : Entry) (its : DraftBody) → one.body ≡ its → members_of its ≡ []
+    → member_ids entries one ≡ []
+no-members entries one its is none = ap (λ (ms : List DraftReference). filter_map
+    (λ member. option_map (basic_id entries) (meaning_of_event entries one.container member.name)) ms)
+    (ap members_of is ∙ none)
 
-group-ids : (entries : Entries) (one : Entry) (its : DraftBody) → one.body ≡ its → map (λ (id : EventId). id.0) (group_by entries one its).members ≡ member_ids entries one
+group-ids : (entries : Entries) (one : Entry) (its : DraftBody) → one.body ≡ its
+    → map (λ (id : EventId). id.0) (group_by entries one its).members ≡ member_ids entries one
 group-ids entries one (body.Group group) is = own-ids (member_ids entries one)
 group-ids entries one body.Nothing is = sym (no-members entries one body.Nothing is refl)
 group-ids entries one (body.Formula f) is = sym (no-members entries one (body.Formula f) is refl)
@@ -118,51 +141,78 @@ group-ids entries one (body.Steps i l) is = sym (no-members entries one (body.St
 group-ids entries one (body.Walk w) is = sym (no-members entries one (body.Walk w) is refl)
 
 -- the members of all groups of the model, by what they stand for
-pub model-members : (entries : Entries) → model_members (model_from entries) ≡ map (basic_id entries) (all_members entries)
+pub model-members : (entries : Entries)
+    → model_members (model_from entries) ≡ map (basic_id entries) (all_members entries)
 model-members entries =
-    flat-of-map (λ (g : Group). map (λ (id : EventId). id.0) g.members) (λ (one : ℕ × Entry). group_of entries one.1) (all_of_kind kind.Group entries)
-    ∙ flat-same _ (λ (one : ℕ × Entry). map (basic_id entries) (member_list entries one.1)) (λ (one : ℕ × Entry). group-ids entries one.1 one.1.body refl ∙ member-ids entries one.1) (all_of_kind kind.Group entries)
-    ∙ sym (map-flat (basic_id entries) (λ (one : ℕ × Entry). member_list entries one.1) (all_of_kind kind.Group entries))
+    flat-of-map (λ (g : Group). map (λ (id : EventId). id.0) g.members) (λ (one : ℕ × Entry). group_of entries one.1)
+    (all_of_kind kind.Group entries)
+    ∙ flat-same _ (λ (one : ℕ × Entry). map (basic_id entries) (member_list entries one.1))
+    (λ (one : ℕ × Entry). group-ids entries one.1 one.1.body refl ∙ member-ids entries one.1)
+    (all_of_kind kind.Group entries)
+    ∙ sym (map-flat (basic_id entries) (λ (one : ℕ × Entry). member_list entries one.1)
+    (all_of_kind kind.Group entries))
 
-pub is-member : (entries : Entries) (id : ℕ) → is_member entries id ≡ list_any (λ m. m == id) (model_members (model_from entries))
+pub is-member : (entries : Entries) (id : ℕ)
+    → is_member entries id ≡ list_any (λ m. m == id) (model_members (model_from entries))
 is-member entries id =
     sym (any-flat (λ m. m == id) (λ (one : ℕ × Entry). member_ids entries one.1) (all_of_kind kind.Group entries))
-    ∙ ap (list_any (λ m. m == id)) (flat-same (λ (one : ℕ × Entry). member_ids entries one.1) (λ (one : ℕ × Entry). map (basic_id entries) (member_list entries one.1)) (λ (one : ℕ × Entry). member-ids entries one.1) (all_of_kind kind.Group entries)
-    ∙ sym (map-flat (basic_id entries) (λ (one : ℕ × Entry). member_list entries one.1) (all_of_kind kind.Group entries))
+    ∙ ap (list_any (λ m. m == id)) (flat-same (λ (one : ℕ × Entry). member_ids entries one.1)
+    (λ (one : ℕ × Entry). map (basic_id entries) (member_list entries one.1))
+    (λ (one : ℕ × Entry). member-ids entries one.1) (all_of_kind kind.Group entries)
+    ∙ sym (map-flat (basic_id entries) (λ (one : ℕ × Entry). member_list entries one.1)
+    (all_of_kind kind.Group entries))
     ∙ sym (model-members entries))
 
 -- ---- what a group defines is a member of it
 
 abbrev pub absent : Entries → Entry → DraftReference → Bool
-absent entries group member = not (is_path member.name) && not (is_some (definition_named entries events group.container member.name))
+absent entries group member = not (is_path member.name) && not
+    (is_some (definition_named entries events group.container member.name))
 
 none-named : (o : Option ℕ) → is_some o ≡ false → o ≡ None
 none-named None h = refl
 none-named (Some x) h = absurd (false≢true (sym h))
 
 -- a plain member that names no definition stands for the event that the group defines
-pub absent-meaning : (entries : Entries) (place : ℕ) (group : Entry) (member : DraftReference) → slice_get entries place ≡ Some group → Has (members_of group.body) member → absent entries group member ≡ true → meaning_of_event entries group.container member.name ≡ Some (of_group member.name)
+pub absent-meaning : (entries : Entries) (place : ℕ) (group : Entry) (member : DraftReference)
+    → slice_get entries place ≡ Some group → Has (members_of group.body) member → absent entries group member ≡ true
+    → meaning_of_event entries group.container member.name ≡ Some (of_group member.name)
 absent-meaning entries place group member there here h =
-    let parts = and_parts (not (is_path member.name)) (not (is_some (definition_named entries events group.container member.name))) h in
+    let parts = and_parts (not (is_path member.name))
+    (not (is_some (definition_named entries events group.container member.name))) h in
     let none = none-named (definition_named entries events group.container member.name) (not-true _ parts.1) in
-    let defined = has-map (λ (m : DraftReference). m.name) (filter (absent entries group) (members_of group.body)) member (has-kept (absent entries group) (members_of group.body) member here h) in
-    let is_defined : is_defined_by_group entries member.name ≡ true = has-any (λ g. list_any (bytes_eq member.name) (defined_by_group entries g)) entries group (place, there) (has-any (bytes_eq member.name) (defined_by_group entries group) member.name defined (text-own member.name)) in
+    let defined = has-map (λ (m : DraftReference). m.name) (filter (absent entries group) (members_of group.body))
+    member (has-kept (absent entries group) (members_of group.body) member here h) in
+    let is_defined : is_defined_by_group entries member.name ≡ true =
+    has-any (λ g. list_any (bytes_eq member.name) (defined_by_group entries g)) entries group (place, there)
+    (has-any (bytes_eq member.name) (defined_by_group entries group) member.name defined
+    (text-own member.name)) in
     rw none (rw (and_from _ _ parts.0 is_defined) refl)
 
 -- an event that a group defines is among what its members stand for
-pub defined-member : (entries : Entries) (place : ℕ) (group : Entry) (name : Text) → slice_get entries place ≡ Some group → Has (defined_by_group entries group) name → Has (member_list entries group) (of_group name)
+pub defined-member : (entries : Entries) (place : ℕ) (group : Entry) (name : Text)
+    → slice_get entries place ≡ Some group → Has (defined_by_group entries group) name
+    → Has (member_list entries group) (of_group name)
 defined-member entries place group name there here =
-    let r = from-map (λ (m : DraftReference). m.name) (filter (absent entries group) (members_of group.body)) name here in
+    let r = from-map (λ (m : DraftReference). m.name) (filter (absent entries group) (members_of group.body))
+    name here in
     let k = from-kept (absent entries group) (members_of group.body) r.0 r.1 in
     let meaning = absent-meaning entries place group r.0 there k.0 k.1 in
-    let listed = has-map (λ (m : DraftReference). meaning_of_event entries group.container m.name) (members_of group.body) r.0 k.0 in
+    let listed = has-map (λ (m : DraftReference). meaning_of_event entries group.container m.name)
+    (members_of group.body) r.0 k.0 in
     somes-has (meanings_of_members entries group) (of_group name)
-    (subst (λ (o : Option Meaning). Has (meanings_of_members entries group) o) (meaning ∙ ap (λ (n : Text). Some (of_group n)) r.2) listed)
+    (subst (λ (o : Option Meaning). Has (meanings_of_members entries group) o)
+    (meaning ∙ ap (λ (n : Text). Some (of_group n)) r.2) listed)
 
-defined-distinct : (entries : Entries) (group : Entry) (members : List DraftReference) → ((m : DraftReference) → Has members m → absent entries group m ≡ true → meaning_of_event entries group.container m.name ≡ Some (of_group m.name)) → has_repeat (map (λ (m : DraftReference). meaning_of_event entries group.container m.name) members) ≡ false → AreDistinct (map of_group (map (λ (m : DraftReference). m.name) (filter (absent entries group) members)))
+defined-distinct : (entries : Entries) (group : Entry) (members : List DraftReference)
+    → ((m : DraftReference) → Has members m → absent entries group m ≡ true
+    → meaning_of_event entries group.container m.name ≡ Some (of_group m.name))
+    → has_repeat (map (λ (m : DraftReference). meaning_of_event entries group.container m.name) members) ≡ false
+    → AreDistinct (map of_group (map (λ (m : DraftReference). m.name) (filter (absent entries group) members)))
 defined-distinct entries group [] means h = tt
 defined-distinct entries group (m ∷ members) means h =
-    let parts = or_parts (list_any (same_meaning (meaning_of_event entries group.container m.name)) (map (λ (x : DraftReference). meaning_of_event entries group.container x.name) members)) _ h in
+    let parts = or_parts (list_any (same_meaning (meaning_of_event entries group.container m.name))
+    (map (λ (x : DraftReference). meaning_of_event entries group.container x.name) members)) _ h in
     let rest = defined-distinct entries group members (λ x later. means x (has-later m x members later)) parts.1 in
     elim (cases_Bool (absent entries group m)) [
       | inr fails ↦ rw fails rest
@@ -170,61 +220,85 @@ defined-distinct entries group (m ∷ members) means h =
           let own = means m (has-first m members) passes in
           rw passes (
             (λ y here same. (
-                let a = from-map of_group (map (λ (x : DraftReference). x.name) (filter (absent entries group) members)) y here in
+                let a = from-map of_group (map (λ (x : DraftReference). x.name)
+                (filter (absent entries group) members)) y here in
                 let b = from-map (λ (x : DraftReference). x.name) (filter (absent entries group) members) a.0 a.1 in
                 let k = from-kept (absent entries group) members b.0 b.1 in
                 let its = means b.0 (has-later m b.0 members k.0) k.1 in
-                let equal : meaning_of_event entries group.container m.name ≡ meaning_of_event entries group.container b.0.name = own ∙ ap Some (same ∙ sym a.2 ∙ ap of_group (sym b.2)) ∙ sym its in
-                let same_one : same_meaning (meaning_of_event entries group.container m.name) (meaning_of_event entries group.container b.0.name) ≡ true =
-                ap (λ (o : Option Meaning). same_meaning (meaning_of_event entries group.container m.name) o) (sym equal) ∙ ap (λ (o : Option Meaning). same_meaning o o) own ∙ same-own (of_group m.name) in
-                both_ways _ parts.0 (has-any (same_meaning (meaning_of_event entries group.container m.name)) (map (λ (x : DraftReference). meaning_of_event entries group.container x.name) members) _ (has-map (λ (x : DraftReference). meaning_of_event entries group.container x.name) members b.0 k.0) same_one))),
+                let equal : meaning_of_event entries group.container m.name
+                ≡ meaning_of_event entries group.container b.0.name = own
+                ∙ ap Some (same ∙ sym a.2 ∙ ap of_group (sym b.2)) ∙ sym its in
+                let same_one : same_meaning (meaning_of_event entries group.container m.name)
+                (meaning_of_event entries group.container b.0.name) ≡ true =
+                ap (λ (o : Option Meaning). same_meaning (meaning_of_event entries group.container m.name) o)
+                (sym equal) ∙ ap (λ (o : Option Meaning). same_meaning o o) own ∙ same-own (of_group m.name) in
+                both_ways _ parts.0 (has-any (same_meaning (meaning_of_event entries group.container m.name))
+                (map (λ (x : DraftReference). meaning_of_event entries group.container x.name) members) _
+                (has-map (λ (x : DraftReference). meaning_of_event entries group.container x.name)
+                members b.0 k.0) same_one))),
             rest,
           )
     ]
 
 -- ---- basic events stand once
 
-at-distinct : (entries : Entries) → AreEntries entries → (one : ℕ × Entry) → slice_get entries one.0 ≡ Some one.1 → AreDistinct (basics_at entries one)
+at-distinct : (entries : Entries) → AreEntries entries → (one : ℕ × Entry) → slice_get entries one.0 ≡ Some one.1
+    → AreDistinct (basics_at entries one)
 at-distinct entries are one there = by_kind (is_kind kind.BasicEvent one.1) (is_kind kind.Group one.1) refl
   where
-    by_kind : (b c : Bool) → is_kind kind.Group one.1 ≡ c → AreDistinct (pick b c (definition one.0) (map of_group (defined_by_group entries one.1)))
+    by_kind : (b c : Bool) → is_kind kind.Group one.1 ≡ c
+        → AreDistinct (pick b c (definition one.0) (map of_group (defined_by_group entries one.1)))
     by_kind true c at = ((λ y h same. has-none y h), tt)
     by_kind false true at =
         let is = group-kind one.1.kind at in
         let allowed = group-allowed entries one.0 one.1 (are one.0 one.1 there) is in
-        defined-distinct entries one.1 (members_of one.1.body) (λ m here h. absent-meaning entries one.0 one.1 m there here h) allowed.no_repeat
+        defined-distinct entries one.1 (members_of one.1.body)
+        (λ m here h. absent-meaning entries one.0 one.1 m there here h) allowed.no_repeat
     by_kind false false at = tt
 
-at-apart : (entries : Entries) → AreEntries entries → (one other : ℕ × Entry) → one.0 < other.0 → slice_get entries one.0 ≡ Some one.1 → slice_get entries other.0 ≡ Some other.1 → (x y : Meaning) → Has (basics_at entries one) x → Has (basics_at entries other) y → x ≡ y → ⊥
+at-apart : (entries : Entries) → AreEntries entries → (one other : ℕ × Entry) → one.0 < other.0
+    → slice_get entries one.0 ≡ Some one.1 → slice_get entries other.0 ≡ Some other.1 → (x y : Meaning)
+    → Has (basics_at entries one) x → Has (basics_at entries other) y → x ≡ y → ⊥
 at-apart entries are one other l first later x y here there same =
-    elim (pick-cases (is_kind kind.BasicEvent one.1) (is_kind kind.Group one.1) (definition one.0) (map of_group (defined_by_group entries one.1)) x here) [
-      | inl a ↦ elim (pick-cases (is_kind kind.BasicEvent other.1) (is_kind kind.Group other.1) (definition other.0) (map of_group (defined_by_group entries other.1)) y there) [
-        | inl b ↦ let k : one.0 ≡ other.0 = (let p = a.1 in let q = b.1 in cc) in omega (arith, l, k)
-        | inr b ↦ let r = from-map of_group (defined_by_group entries other.1) y b.1 in (let p = a.1 in let q = r.2 in absurd (cc))
-      ]
+    elim (pick-cases (is_kind kind.BasicEvent one.1) (is_kind kind.Group one.1) (definition one.0)
+    (map of_group (defined_by_group entries one.1)) x here) [
+      | inl a ↦ elim (pick-cases (is_kind kind.BasicEvent other.1) (is_kind kind.Group other.1) (definition other.0)
+          (map of_group (defined_by_group entries other.1)) y there) [
+            | inl b ↦ let k : one.0 ≡ other.0 = (let p = a.1 in let q = b.1 in cc) in omega (arith, l, k)
+            | inr b ↦ let r = from-map of_group (defined_by_group entries other.1)
+                y b.1 in (let p = a.1 in let q = r.2 in absurd (cc))
+          ]
       | inr a ↦
           let r = from-map of_group (defined_by_group entries one.1) x a.1 in
-          elim (pick-cases (is_kind kind.BasicEvent other.1) (is_kind kind.Group other.1) (definition other.0) (map of_group (defined_by_group entries other.1)) y there) [
+          elim (pick-cases (is_kind kind.BasicEvent other.1) (is_kind kind.Group other.1) (definition other.0)
+          (map of_group (defined_by_group entries other.1)) y there) [
             | inl b ↦ (let p = r.2 in let q = b.1 in absurd (cc))
             | inr b ↦
                 let s = from-map of_group (defined_by_group entries other.1) y b.1 in
-                groups-apart entries are one.0 other.0 one.1 other.1 l first later (group-kind other.1.kind b.0) (of_group r.0) (of_group s.0)
-                (defined-member entries one.0 one.1 r.0 first r.1) (defined-member entries other.0 other.1 s.0 later s.1) (r.2 ∙ same ∙ sym s.2)
+                groups-apart entries are one.0 other.0 one.1 other.1 l first later (group-kind other.1.kind b.0)
+                (of_group r.0) (of_group s.0)
+                (defined-member entries one.0 one.1 r.0 first r.1)
+                (defined-member entries other.0 other.1 s.0 later s.1) (r.2 ∙ same ∙ sym s.2)
           ]
     ]
 
-some-distinct : (entries : Entries) → AreEntries entries → (some : List (ℕ × Entry)) → AreNumbered some → ((one : ℕ × Entry) → Has some one → slice_get entries one.0 ≡ Some one.1) → AreDistinct (flat_map (basics_at entries) some)
+some-distinct : (entries : Entries) → AreEntries entries → (some : List (ℕ × Entry)) → AreNumbered some
+    → ((one : ℕ × Entry) → Has some one → slice_get entries one.0 ≡ Some one.1)
+    → AreDistinct (flat_map (basics_at entries) some)
 some-distinct entries are [] ascend all = tt
 some-distinct entries are (one ∷ some) ascend all =
     distinct-joined (basics_at entries one) _ (at-distinct entries are one (all one (has-first one some)))
     (some-distinct entries are some ascend.1 (λ o later. all o (has-later one o some later)))
     (λ x y here there. (let r = from-flat (basics_at entries) some y there in
-    at-apart entries are one r.0 (ascend.0 r.0 r.1) (all one (has-first one some)) (all r.0 (has-later one r.0 some r.1)) x y here r.2))
+    at-apart entries are one r.0 (ascend.0 r.0 r.1) (all one (has-first one some))
+    (all r.0 (has-later one r.0 some r.1)) x y here r.2))
 
 basics-distinct : (entries : Entries) → AreEntries entries → AreDistinct (all_basics entries)
-basics-distinct entries are = some-distinct entries are (enumerate_from 0 entries) (enumerated-ascend 0 entries) (from-enumerated entries)
+basics-distinct entries are = some-distinct entries are (enumerate_from 0 entries) (enumerated-ascend 0 entries)
+    (from-enumerated entries)
 
-only-place : (xs : List Meaning) → AreDistinct xs → (i j : ℕ) (x : Meaning) → slice_get xs i ≡ Some x → slice_get xs j ≡ Some x → i ≡ j
+only-place : (xs : List Meaning) → AreDistinct xs → (i j : ℕ) (x : Meaning) → slice_get xs i ≡ Some x
+    → slice_get xs j ≡ Some x → i ≡ j
 only-place [] distinct i j x h k = absurd (none-some x h)
 only-place (y ∷ xs) distinct zero zero x h k = refl
 only-place (y ∷ xs) distinct zero (suc j) x h k = absurd (distinct.0 x (j, k) (same_Some y x h))
@@ -232,8 +306,10 @@ only-place (y ∷ xs) distinct (suc i) zero x h k = absurd (distinct.0 x (i, h) 
 only-place (y ∷ xs) distinct (suc i) (suc j) x h k = ap suc (only-place xs distinct.1 i j x h k)
 
 -- the id of a basic event is its place
-pub id-place : (entries : Entries) → AreEntries entries → (i : ℕ) (m : Meaning) → slice_get (all_basics entries) i ≡ Some m → basic_id entries m ≡ i
-id-place entries are i m h = only-place (all_basics entries) (basics-distinct entries are) (basic_id entries m) i m (basic-at entries m (i, h)) h
+pub id-place : (entries : Entries) → AreEntries entries → (i : ℕ) (m : Meaning)
+    → slice_get (all_basics entries) i ≡ Some m → basic_id entries m ≡ i
+id-place entries are i m h = only-place (all_basics entries) (basics-distinct entries are) (basic_id entries m) i m
+    (basic-at entries m (i, h)) h
 
 basics-length : (entries : Entries) → length (model_from entries).basics ≡ length (all_basics entries)
 basics-length entries =
@@ -242,11 +318,18 @@ basics-length entries =
 
 -- ---- basic events in order
 
-in-order : (entries : Entries) → AreEntries entries → (one : ℕ × Entry) → slice_get entries one.0 ≡ Some one.1 → filter_map basic_in (valued_at entries one) ≡ filter (λ id. not (list_any (λ m. m == id) (model_members (model_from entries)))) (map (basic_id entries) (basics_at entries one))
+in-order : (entries : Entries) → AreEntries entries → (one : ℕ × Entry) → slice_get entries one.0 ≡ Some one.1
+    → filter_map basic_in (valued_at entries one) ≡ filter
+    (λ id. not (list_any (λ m. m == id) (model_members (model_from entries))))
+    (map (basic_id entries) (basics_at entries one))
 in-order entries are one there = by_kind (is_kind kind.BasicEvent one.1) (is_kind kind.Group one.1) refl refl
   where
-    by_kind : (b c : Bool) → is_kind kind.BasicEvent one.1 ≡ b → is_kind kind.Group one.1 ≡ c → filter_map basic_in (valued_at entries one) ≡ filter (λ id. not (list_any (λ m. m == id) (model_members (model_from entries)))) (map (basic_id entries) (basics_at entries one))
-    by_kind true true basic group = let is = basic-kind one.1.kind basic in absurd (false≢true (sym (ap (λ (k : DefinitionKind). kind_number k == 5) is) ∙ group))
+    by_kind : (b c : Bool) → is_kind kind.BasicEvent one.1 ≡ b → is_kind kind.Group one.1 ≡ c
+        → filter_map basic_in (valued_at entries one) ≡ filter
+        (λ id. not (list_any (λ m. m == id) (model_members (model_from entries))))
+        (map (basic_id entries) (basics_at entries one))
+    by_kind true true basic group = let is = basic-kind one.1.kind basic in absurd
+        (false≢true (sym (ap (λ (k : DefinitionKind). kind_number k == 5) is) ∙ group))
     by_kind true false basic group = rw group (rw basic (
         elim (cases_Bool (is_member entries (basic_id entries (definition one.0)))) [
           | inl member ↦
@@ -258,63 +341,94 @@ in-order entries are one there = by_kind (is_kind kind.BasicEvent one.1) (is_kin
         ]))
     by_kind false true basic group =
         let is = group-kind one.1.kind group in
-        let none = none-kept (λ id. not (list_any (λ m. m == id) (model_members (model_from entries)))) (map (basic_id entries) (map of_group (defined_by_group entries one.1))) (λ id here.
+        let none = none-kept (λ id. not (list_any (λ m. m == id) (model_members (model_from entries))))
+        (map (basic_id entries) (map of_group (defined_by_group entries one.1))) (λ id here.
         (let a = from-map (basic_id entries) (map of_group (defined_by_group entries one.1)) id here in
         let b = from-map of_group (defined_by_group entries one.1) a.0 a.1 in
         let listed = defined-member entries one.0 one.1 b.0 there b.1 in
-        let among : Has (all_of_kind kind.Group entries) one = has-kept (λ (o : ℕ × Entry). is_kind kind.Group o.1) (enumerate_from 0 entries) one (has-enumerated entries one.0 one.1 there) group in
-        let member = has-flat (λ (o : ℕ × Entry). member_list entries o.1) (all_of_kind kind.Group entries) one (of_group b.0) among listed in
-        let there_id : Has (model_members (model_from entries)) (basic_id entries (of_group b.0)) = subst (λ (all : List ℕ). Has all (basic_id entries (of_group b.0))) (sym (model-members entries)) (has-map (basic_id entries) (all_members entries) (of_group b.0) member) in
+        let among : Has (all_of_kind kind.Group entries) one = has-kept (λ (o : ℕ × Entry). is_kind kind.Group o.1)
+        (enumerate_from 0 entries) one (has-enumerated entries one.0 one.1 there) group in
+        let member = has-flat (λ (o : ℕ × Entry). member_list entries o.1) (all_of_kind kind.Group entries) one
+        (of_group b.0) among listed in
+        let there_id : Has (model_members (model_from entries)) (basic_id entries (of_group b.0)) =
+        subst (λ (all : List ℕ). Has all (basic_id entries (of_group b.0))) (sym (model-members entries))
+        (has-map (basic_id entries) (all_members entries) (of_group b.0) member) in
         let same : basic_id entries (of_group b.0) ≡ id = ap (basic_id entries) b.2 ∙ a.2 in
-        not_from_true _ (has-any (λ m. m == id) (model_members (model_from entries)) (basic_id entries (of_group b.0)) there_id (eq-eqb (basic_id entries (of_group b.0)) id same)))) in
+        not_from_true _ (has-any (λ m. m == id) (model_members (model_from entries)) (basic_id entries (of_group b.0))
+        there_id (eq-eqb (basic_id entries (of_group b.0)) id same)))) in
         rw group (rw basic (sym none))
     by_kind false false basic group = rw group (rw basic refl)
 
-pub basics-order : (entries : Entries) → AreEntries entries → filter_map basic_in (model_from entries).order ≡ filter (λ id. not (list_any (λ m. m == id) (model_members (model_from entries)))) (range_with_len 0 (length (model_from entries).basics))
+pub basics-order : (entries : Entries) → AreEntries entries
+    → filter_map basic_in (model_from entries).order ≡ filter
+    (λ id. not (list_any (λ m. m == id) (model_members (model_from entries))))
+    (range_with_len 0 (length (model_from entries).basics))
 basics-order entries are =
     let test = λ (id : ℕ). not (list_any (λ m. m == id) (model_members (model_from entries))) in
     let ids : map (basic_id entries) (all_basics entries) ≡ range_with_len 0 (length (model_from entries).basics) =
-    map-range (basic_id entries) 0 (all_basics entries) (λ i m h. (let at = id-place entries are i m h in omega (arith, at)))
+    map-range (basic_id entries) 0 (all_basics entries)
+    (λ i m h. (let at = id-place entries are i m h in omega (arith, at)))
     ∙ ap (range_with_len 0) (sym (basics-length entries)) in
     made-flat basic_in (valued_at entries) (enumerate_from 0 entries)
-    ∙ map-flat-in _ (λ (one : ℕ × Entry). filter test (map (basic_id entries) (basics_at entries one))) (enumerate_from 0 entries) (λ (one : ℕ × Entry) here. in-order entries are one (from-enumerated entries one here))
-    ∙ sym (kept-flat test (λ (one : ℕ × Entry). map (basic_id entries) (basics_at entries one)) (enumerate_from 0 entries))
+    ∙ map-flat-in _ (λ (one : ℕ × Entry). filter test (map (basic_id entries) (basics_at entries one)))
+    (enumerate_from 0 entries) (λ (one : ℕ × Entry) here. in-order entries are one
+    (from-enumerated entries one here))
+    ∙ sym (kept-flat test (λ (one : ℕ × Entry). map (basic_id entries) (basics_at entries one))
+    (enumerate_from 0 entries))
     ∙ ap (filter test) (sym (map-flat (basic_id entries) (basics_at entries) (enumerate_from 0 entries)) ∙ ids)
 
 -- ---- groups in order
 
-group-in-order : (entries : Entries) (one : ℕ × Entry) → filter_map group_in (valued_at entries one) ≡ cond (is_kind kind.Group one.1) (id_of kind.Group entries one.0 ∷ []) []
-group-in-order entries one = by_kind (is_kind kind.Group one.1) (is_kind kind.BasicEvent one.1 && not (is_member entries (basic_id entries (definition one.0))))
+group-in-order : (entries : Entries) (one : ℕ × Entry)
+    → filter_map group_in (valued_at entries one) ≡ cond (is_kind kind.Group one.1)
+    (id_of kind.Group entries one.0 ∷ []) []
+group-in-order entries one = by_kind (is_kind kind.Group one.1)
+    (is_kind kind.BasicEvent one.1 && not (is_member entries (basic_id entries (definition one.0))))
   where
-    by_kind : (b c : Bool) → filter_map group_in (if b then valued.Group (record { 0 = id_of kind.Group entries one.0 }) ∷ [] else if c then valued.Basic (record { 0 = basic_id entries (definition one.0) }) ∷ [] else []) ≡ cond b (id_of kind.Group entries one.0 ∷ []) []
+    by_kind : (b c : Bool) → filter_map group_in
+        (if b then valued.Group (record { 0 = id_of kind.Group entries one.0 }) ∷ [] else if c then valued.Basic
+        (record { 0 = basic_id entries (definition one.0) }) ∷ [] else []) ≡ cond b
+        (id_of kind.Group entries one.0 ∷ []) []
     by_kind true c = refl
     by_kind false true = refl
     by_kind false false = refl
 
-number-place : {A : Type 0} (xs : List (ℕ × A)) → AreNumbered xs → (i j : ℕ) (x y : ℕ × A) → slice_get xs i ≡ Some x → slice_get xs j ≡ Some y → x.0 ≡ y.0 → i ≡ j
+number-place : {A : Type 0} (xs : List (ℕ × A)) → AreNumbered xs → (i j : ℕ) (x y : ℕ × A) → slice_get xs i ≡ Some x
+    → slice_get xs j ≡ Some y → x.0 ≡ y.0 → i ≡ j
 number-place [] ascend i j x y h k same = absurd (none-some x h)
 number-place (z ∷ xs) ascend zero zero x y h k same = refl
 number-place {A} (z ∷ xs) ascend zero (suc j) x y h k same =
-    let less = ascend.0 y (j, k) in let first = ap (λ (o : ℕ × A). o.0) (same_Some z x h) in absurd (omega (arith, less, first, same))
+    let less = ascend.0 y (j, k) in let first = ap (λ (o : ℕ × A). o.0) (same_Some z x h) in absurd
+    (omega (arith, less, first, same))
 number-place {A} (z ∷ xs) ascend (suc i) zero x y h k same =
-    let less = ascend.0 x (i, h) in let first = ap (λ (o : ℕ × A). o.0) (same_Some z y k) in absurd (omega (arith, less, first, same))
+    let less = ascend.0 x (i, h) in let first = ap (λ (o : ℕ × A). o.0) (same_Some z y k) in absurd
+    (omega (arith, less, first, same))
 number-place (z ∷ xs) ascend (suc i) (suc j) x y h k same = ap suc (number-place xs ascend.1 i j x y h k same)
 
-group-place : (entries : Entries) (i : ℕ) (one : ℕ × Entry) → slice_get (all_of_kind kind.Group entries) i ≡ Some one → id_of kind.Group entries one.0 ≡ i
+group-place : (entries : Entries) (i : ℕ) (one : ℕ × Entry) → slice_get (all_of_kind kind.Group entries) i ≡ Some one
+    → id_of kind.Group entries one.0 ≡ i
 group-place entries i one h =
     let g = group-at entries one (i, h) in
     let right : is_kind kind.Group one.1 ≡ true = ap (λ (k : DefinitionKind). kind_number k == 5) g.1 in
     let at = made-at kind.Group entries (λ (o : ℕ × Entry). o) one.0 one.1 g.0 right in
-    let own : slice_get (all_of_kind kind.Group entries) (id_of kind.Group entries one.0) ≡ Some (one.0, one.1) = ap (λ (all : List (ℕ × Entry)). slice_get all (id_of kind.Group entries one.0)) (sym (map-id (all_of_kind kind.Group entries))) ∙ at in
-    number-place (all_of_kind kind.Group entries) (kind-ascends kind.Group entries) (id_of kind.Group entries one.0) i (one.0, one.1) one own h refl
+    let own : slice_get (all_of_kind kind.Group entries) (id_of kind.Group entries one.0) ≡ Some (one.0, one.1) =
+    ap (λ (all : List (ℕ × Entry)). slice_get all (id_of kind.Group entries one.0))
+    (sym (map-id (all_of_kind kind.Group entries))) ∙ at in
+    number-place (all_of_kind kind.Group entries) (kind-ascends kind.Group entries) (id_of kind.Group entries one.0) i
+    (one.0, one.1) one own h refl
 
-pub groups-order : (entries : Entries) → filter_map group_in (model_from entries).order ≡ range_with_len 0 (length (model_from entries).groups)
+pub groups-order : (entries : Entries)
+    → filter_map group_in (model_from entries).order ≡ range_with_len 0 (length (model_from entries).groups)
 groups-order entries =
     made-flat group_in (valued_at entries) (enumerate_from 0 entries)
-    ∙ flat-same _ (λ (one : ℕ × Entry). cond (is_kind kind.Group one.1) (id_of kind.Group entries one.0 ∷ []) []) (group-in-order entries) (enumerate_from 0 entries)
-    ∙ flat-kept (λ (one : ℕ × Entry). is_kind kind.Group one.1) (λ (one : ℕ × Entry). id_of kind.Group entries one.0) (enumerate_from 0 entries)
-    ∙ map-range (λ (one : ℕ × Entry). id_of kind.Group entries one.0) 0 (all_of_kind kind.Group entries) (λ i one h. (let at = group-place entries i one h in omega (arith, at)))
-    ∙ ap (range_with_len 0) (sym (length-map (all_of_kind kind.Group entries) (λ (one : ℕ × Entry). group_of entries one.1)))
+    ∙ flat-same _ (λ (one : ℕ × Entry). cond (is_kind kind.Group one.1) (id_of kind.Group entries one.0 ∷ []) [])
+    (group-in-order entries) (enumerate_from 0 entries)
+    ∙ flat-kept (λ (one : ℕ × Entry). is_kind kind.Group one.1) (λ (one : ℕ × Entry). id_of kind.Group entries one.0)
+    (enumerate_from 0 entries)
+    ∙ map-range (λ (one : ℕ × Entry). id_of kind.Group entries one.0) 0 (all_of_kind kind.Group entries)
+    (λ i one h. (let at = group-place entries i one h in omega (arith, at)))
+    ∙ ap (range_with_len 0) (sym (length-map (all_of_kind kind.Group entries)
+    (λ (one : ℕ × Entry). group_of entries one.1)))
 
 -- the order of the model
 pub order-of : (entries : Entries) → AreEntries entries → IsOrder (model_from entries)

@@ -27,7 +27,8 @@ has-cases y x xs h = cons-at y x xs h.0 h.1
 
 -- ---- joined lists
 
-pub get-left : {A : Type 0} (xs ys : List A) (i : ℕ) (x : A) → slice_get xs i ≡ Some x → slice_get (xs ++ ys) i ≡ Some x
+pub get-left : {A : Type 0} (xs ys : List A) (i : ℕ) (x : A) → slice_get xs i ≡ Some x
+    → slice_get (xs ++ ys) i ≡ Some x
 get-left [] ys i x h = absurd (none-some x h)
 get-left (y ∷ xs) ys zero x h = h
 get-left (y ∷ xs) ys (suc i) x h = get-left xs ys i x h
@@ -52,14 +53,16 @@ append-cases (y ∷ xs) ys x h = elim (has-cases y x (xs ++ ys) h) [
   ]
 ]
 
-pub has-flat : {A B : Type 0} (f : A → List B) (xs : List A) (x : A) (y : B) → Has xs x → Has (f x) y → Has (flat_map f xs) y
+pub has-flat : {A B : Type 0} (f : A → List B) (xs : List A) (x : A) (y : B) → Has xs x → Has (f x) y
+    → Has (flat_map f xs) y
 has-flat f [] x y here h = absurd (has-none x here)
 has-flat {A} {B} f (z ∷ xs) x y here h = elim (has-cases z x xs here) [
   | inl same ↦ has-left (f z) (flat_map f xs) y (subst (λ (a : A). Has (f a) y) (sym same) h)
   | inr later ↦ has-right (f z) (flat_map f xs) y (has-flat f xs x y later h)
 ]
 
-pub from-flat : {A B : Type 0} (f : A → List B) (xs : List A) (y : B) → Has (flat_map f xs) y → (x : A) × Has xs x × Has (f x) y
+pub from-flat : {A B : Type 0} (f : A → List B) (xs : List A) (y : B) → Has (flat_map f xs) y
+    → (x : A) × Has xs x × Has (f x) y
 from-flat f [] y h = absurd (has-none y h)
 from-flat f (x ∷ xs) y h = elim (append-cases (f x) (flat_map f xs) y h) [
   | inl left ↦ (x, has-first x xs, left)
@@ -100,7 +103,8 @@ from-map f (x ∷ xs) y h = elim (has-cases (f x) y (map f xs) h) [
 ]
 
 -- what stands at a place of a list that a function makes
-pub map-at : {A B : Type 0} (f : A → B) (xs : List A) (i : ℕ) (y : B) → slice_get (map f xs) i ≡ Some y → (x : A) × (slice_get xs i ≡ Some x) × (f x ≡ y)
+pub map-at : {A B : Type 0} (f : A → B) (xs : List A) (i : ℕ) (y : B) → slice_get (map f xs) i ≡ Some y
+    → (x : A) × (slice_get xs i ≡ Some x) × (f x ≡ y)
 map-at f [] i y h = absurd (none-some y h)
 map-at f (x ∷ xs) zero y h = (x, refl, same_Some (f x) y h)
 map-at f (x ∷ xs) (suc i) y h = map-at f xs i y h
@@ -118,24 +122,30 @@ all-at p (y ∷ xs) x h here =
 
 pub all-from : {A : Type 0} (p : A → Bool) (xs : List A) → ((x : A) → Has xs x → p x ≡ true) → list_all p xs ≡ true
 all-from p [] h = refl
-all-from p (y ∷ xs) h = and_from (p y) (list_all p xs) (h y (has-first y xs)) (all-from p xs (λ x later. h x (has-later y x xs later)))
+all-from p (y ∷ xs) h = and_from (p y) (list_all p xs) (h y (has-first y xs))
+    (all-from p xs (λ x later. h x (has-later y x xs later)))
 
-pub all-append : {A : Type 0} (p : A → Bool) (xs ys : List A) → list_all p (xs ++ ys) ≡ true → (list_all p xs ≡ true) × (list_all p ys ≡ true)
+pub all-append : {A : Type 0} (p : A → Bool) (xs ys : List A) → list_all p (xs ++ ys) ≡ true
+    → (list_all p xs ≡ true) × (list_all p ys ≡ true)
 all-append p [] ys h = (refl, h)
 all-append p (x ∷ xs) ys h =
     let parts = and_parts (p x) (list_all p (xs ++ ys)) h in
     let rest = all-append p xs ys parts.1 in
     (and_from (p x) (list_all p xs) parts.0 rest.0, rest.1)
 
-pub all-joined : {A : Type 0} (p : A → Bool) (xs ys : List A) → list_all p xs ≡ true → list_all p ys ≡ true → list_all p (xs ++ ys) ≡ true
+pub all-joined : {A : Type 0} (p : A → Bool) (xs ys : List A) → list_all p xs ≡ true → list_all p ys ≡ true
+    → list_all p (xs ++ ys) ≡ true
 all-joined p [] ys h k = k
 all-joined p (x ∷ xs) ys h k =
-    let parts = and_parts (p x) (list_all p xs) h in and_from (p x) (list_all p (xs ++ ys)) parts.0 (all-joined p xs ys parts.1 k)
+    let parts = and_parts (p x) (list_all p xs) h in and_from (p x) (list_all p (xs ++ ys)) parts.0
+    (all-joined p xs ys parts.1 k)
 
-pub all-more : {A : Type 0} (p q : A → Bool) (xs : List A) → ((x : A) → p x ≡ true → q x ≡ true) → list_all p xs ≡ true → list_all q xs ≡ true
+pub all-more : {A : Type 0} (p q : A → Bool) (xs : List A) → ((x : A) → p x ≡ true → q x ≡ true)
+    → list_all p xs ≡ true → list_all q xs ≡ true
 all-more p q [] more h = refl
 all-more p q (x ∷ xs) more h =
-    let parts = and_parts (p x) (list_all p xs) h in and_from (q x) (list_all q xs) (more x parts.0) (all-more p q xs more parts.1)
+    let parts = and_parts (p x) (list_all p xs) h in and_from (q x) (list_all q xs) (more x parts.0)
+    (all-more p q xs more parts.1)
 
 pub any-from : {A : Type 0} (p : A → Bool) (xs : List A) → list_any p xs ≡ true → (x : A) × Has xs x × (p x ≡ true)
 any-from p [] h = absurd (false≢true h)
@@ -155,8 +165,10 @@ pub All-from : {A : Type 0} (P : A → Type 0) (xs : List A) → ((x : A) → Ha
 All-from P xs h k d l = h _ (k, slice_get-get_or xs k d l)
 
 pub All-at : {A : Type 0} (P : A → Type 0) (xs : List A) (x : A) → All P xs → Has xs x → P x
-All-at P xs x h here = subst P (get_or_from_slice_get xs here.0 x x here.1) (h here.0 x (slice_get_within xs here.0 x here.1))
+All-at P xs x h here = subst P (get_or_from_slice_get xs here.0 x x here.1)
+    (h here.0 x (slice_get_within xs here.0 x here.1))
 
-pub list_all-mapped : {A B : Type 0} (p : B → Bool) (f : A → B) (xs : List A) → list_all p (map f xs) ≡ list_all (λ x. p (f x)) xs
+pub list_all-mapped : {A B : Type 0} (p : B → Bool) (f : A → B) (xs : List A)
+    → list_all p (map f xs) ≡ list_all (λ x. p (f x)) xs
 list_all-mapped p f [] = refl
 list_all-mapped p f (x ∷ xs) = ap (λ b. p (f x) && b) (list_all-mapped p f xs)

@@ -48,7 +48,9 @@ abbrev fault_tree_of : Entry → FaultTree
 fault_tree_of one = record { name = one.name; place = one.place }
 
 -- a gate at a place of the model
-gate-of-place : (entries : Entries) (place : ℕ) (gate : Gate) → slice_get (model_from entries).gates place ≡ Some gate → (at : ℕ) × (one : Entry) × (slice_get entries at ≡ Some one) × (one.kind ≡ kind.Gate) × (gate_of entries (at, one) ≡ gate)
+gate-of-place : (entries : Entries) (place : ℕ) (gate : Gate) → slice_get (model_from entries).gates place ≡ Some gate
+    → (at : ℕ) × (one : Entry) × (slice_get entries at ≡ Some one) × (one.kind ≡ kind.Gate)
+    × (gate_of entries (at, one) ≡ gate)
 gate-of-place entries place gate h =
     let r = map-at (gate_of entries) (all_of_kind kind.Gate entries) place gate h in
     let d = from-made kind.Gate entries r.0 (place, r.1) in
@@ -59,35 +61,54 @@ resolved draft is are =
     let entries = entries_of draft in
     record {
       gates = λ place gate h. (let g = gate-of-place entries place gate h in
-          subst (λ (x : Gate). within MAX_DEPTH (model_of draft) x.formula ≡ true) g.4 (gate-parts entries g.0 g.1 are g.2 g.3).0);
+          subst (λ (x : Gate). within MAX_DEPTH (model_of draft) x.formula ≡ true) g.4
+          (gate-parts entries g.0 g.1 are g.2 g.3).0);
       trees = λ place gate h. (let g = gate-of-place entries place gate h in
           let d = map-at entry_of draft.definitions g.0 g.1 g.2 in
           let kind_is : d.0.kind ≡ kind.Gate = ap (λ (e : Entry). e.kind) d.2 ∙ g.3 in
           let rooted = (each-contained draft.definitions is.containers d.0 (g.0, d.1)).0 kind_is in
           let below = fault-tree-stands draft.definitions d.0.container rooted in
           let same = length-map (all_of_kind kind.FaultTree entries) (λ (one : ℕ × Entry). fault_tree_of one.1) in
-          let tree : gate.tree.0 ≡ tree_id kind.FaultTree entries d.0.container = ap (λ (x : Gate). x.tree.0) (sym g.4) ∙ ap (λ (e : Entry). tree_id kind.FaultTree entries e.container) (sym d.2) in
+          let tree : gate.tree.0 ≡ tree_id kind.FaultTree entries d.0.container =
+          ap (λ (x : Gate). x.tree.0) (sym g.4) ∙ ap (λ (e : Entry). tree_id kind.FaultTree entries e.container)
+          (sym d.2) in
           omega (arith, below, same, tree));
       formulas = λ place f h. (formula-parts entries are f (place, h)).0;
     }
 
 nested : (entries : Entries) → AreEntries entries → AllSit entries → IsNested (model_from entries)
 nested entries are sit = record {
-  gates = kind-all kind.Gate entries (gate_of entries) (λ (gate : Gate). formula_nesting gate.formula ≤ MAX_NESTING) (λ place one there is. (gate-parts entries place one are there (gate-kind one.kind is)).1);
-  formulas = All-from (λ (f : Formula). formula_nesting f ≤ MAX_NESTING) (model_from entries).formulas (λ f here. (formula-parts entries are f here).1);
-  parameters = kind-all kind.Parameter entries (λ (one : ℕ × Entry). parameter_of entries one.1) (λ (p : Parameter). expression_nesting p.expression ≤ MAX_NESTING) (λ place one there is.
+  gates = kind-all kind.Gate entries (gate_of entries) (λ (gate : Gate). formula_nesting gate.formula ≤ MAX_NESTING)
+      (λ place one there is. (gate-parts entries place one are there (gate-kind one.kind is)).1);
+  formulas = All-from (λ (f : Formula). formula_nesting f ≤ MAX_NESTING) (model_from entries).formulas
+      (λ f here. (formula-parts entries are f here).1);
+  parameters = kind-all kind.Parameter entries (λ (one : ℕ × Entry). parameter_of entries one.1)
+      (λ (p : Parameter). expression_nesting p.expression ≤ MAX_NESTING) (λ place one there is.
       (let kind_is = parameter-kind one.kind is in
       let b = parameter-body one.body (its-body entries place one kind.Parameter are there kind_is) in
-      let shallow = parts-shallow MAX_NESTING (expression_contents b.0 ∷ []) (its-nesting entries place one (body.Value (Some b.0)) are there b.1) in
-      subst (λ (e : Expression). expression_nesting e ≤ MAX_NESTING) (sym (parameter-says entries one b.0 b.1)) (expression-nested MAX_NESTING entries one b.0 shallow)));
-  rules = kind-all kind.Rule entries (λ (one : ℕ × Entry). rule_of entries one.1) (λ (r : RuleDefinition). are_nested MAX_NESTING r.instructions ≡ true) (λ place one there is. (rule-parts entries place one are sit there (rule-kind one.kind is)).1);
-  sequences = kind-all kind.Sequence entries (λ (one : ℕ × Entry). sequence_of entries one.1) (λ (s : Sequence). are_nested MAX_NESTING s.instructions ≡ true) (λ place one there is. sequence-nested entries place one are there (sequence-kind one.kind is));
-  event_trees = kind-all kind.EventTree entries (λ (one : ℕ × Entry). tree_of entries one.1) (λ (t : EventTree). is_nested MAX_NESTING t.start ≡ true) (λ place one there is. (tree-parts entries place one are sit there (tree-kind one.kind is)).1);
-  branches = kind-all kind.Branch entries (λ (one : ℕ × Entry). named_of entries one.1) (λ (n : NamedBranch). is_nested MAX_NESTING n.branch ≡ true) (λ place one there is. (branch-parts entries place one are sit there (branch-kind one.kind is)).1);
+      let shallow = parts-shallow MAX_NESTING (expression_contents b.0 ∷ [])
+      (its-nesting entries place one (body.Value (Some b.0)) are there b.1) in
+      subst (λ (e : Expression). expression_nesting e ≤ MAX_NESTING) (sym (parameter-says entries one b.0 b.1))
+      (expression-nested MAX_NESTING entries one b.0 shallow)));
+  rules = kind-all kind.Rule entries (λ (one : ℕ × Entry). rule_of entries one.1)
+      (λ (r : RuleDefinition). are_nested MAX_NESTING r.instructions ≡ true)
+      (λ place one there is. (rule-parts entries place one are sit there (rule-kind one.kind is)).1);
+  sequences = kind-all kind.Sequence entries (λ (one : ℕ × Entry). sequence_of entries one.1)
+      (λ (s : Sequence). are_nested MAX_NESTING s.instructions ≡ true)
+      (λ place one there is. sequence-nested entries place one are there (sequence-kind one.kind is));
+  event_trees = kind-all kind.EventTree entries (λ (one : ℕ × Entry). tree_of entries one.1)
+      (λ (t : EventTree). is_nested MAX_NESTING t.start ≡ true)
+      (λ place one there is. (tree-parts entries place one are sit there (tree-kind one.kind is)).1);
+  branches = kind-all kind.Branch entries (λ (one : ℕ × Entry). named_of entries one.1)
+      (λ (n : NamedBranch). is_nested MAX_NESTING n.branch ≡ true)
+      (λ place one there is. (branch-parts entries place one are sit there (branch-kind one.kind is)).1);
 }
 
 -- the event tree around a definition that stands in one
-inside-tree : (draft : Draft) → IsDraft draft → (place : ℕ) (one : Entry) → slice_get (entries_of draft) place ≡ Some one → (one.kind ≡ kind.FunctionalEvent) ⊎ ((one.kind ≡ kind.Sequence) ⊎ (one.kind ≡ kind.Branch)) → TreeStands (model_of draft) (record { 0 = tree_id kind.EventTree (entries_of draft) one.container })
+inside-tree : (draft : Draft) → IsDraft draft → (place : ℕ) (one : Entry)
+    → slice_get (entries_of draft) place ≡ Some one
+    → (one.kind ≡ kind.FunctionalEvent) ⊎ ((one.kind ≡ kind.Sequence) ⊎ (one.kind ≡ kind.Branch))
+    → TreeStands (model_of draft) (record { 0 = tree_id kind.EventTree (entries_of draft) one.container })
 inside-tree draft is place one there of =
     let entries = entries_of draft in
     let d = map-at entry_of draft.definitions place one there in
@@ -99,7 +120,8 @@ inside-tree draft is place one there of =
       | inr (inr branch) ↦ contained.3 (same_kind ∙ branch)
     ]) in
     let same = length-map (all_of_kind kind.EventTree entries) (λ (o : ℕ × Entry). tree_of entries o.1) in
-    let tree : tree_id kind.EventTree entries one.container ≡ tree_id kind.EventTree entries d.0.container = ap (λ (e : Entry). tree_id kind.EventTree entries e.container) (sym d.2) in
+    let tree : tree_id kind.EventTree entries one.container ≡ tree_id kind.EventTree entries d.0.container =
+    ap (λ (e : Entry). tree_id kind.EventTree entries e.container) (sym d.2) in
     omega (arith, below, same, tree)
 
 -- what is promised of a model holds of that of a draft without a fault
@@ -111,22 +133,40 @@ promised draft is none =
     record {
       resolved = resolved draft is are;
       nested = nested entries are sit;
-      parameters = kind-all kind.Parameter entries (λ (one : ℕ × Entry). parameter_of entries one.1) (λ (p : Parameter). value_within MAX_DEPTH (model_of draft) p.expression ≡ true) (λ place one there k. parameters-within entries are place one there (parameter-kind one.kind k));
+      parameters = kind-all kind.Parameter entries (λ (one : ℕ × Entry). parameter_of entries one.1)
+          (λ (p : Parameter). value_within MAX_DEPTH (model_of draft) p.expression ≡ true)
+          (λ place one there k. parameters-within entries are place one there (parameter-kind one.kind k));
       basics = basics-parts entries are;
-      groups = kind-all kind.Group entries (λ (one : ℕ × Entry). group_of entries one.1) (IsGroup (model_of draft)) (λ place one there k. group-parts entries place one are there (group-kind one.kind k));
+      groups = kind-all kind.Group entries (λ (one : ℕ × Entry). group_of entries one.1) (IsGroup (model_of draft))
+          (λ place one there k. group-parts entries place one are there (group-kind one.kind k));
       apart = members-differ entries are;
       order = order-of entries are;
-      rules = kind-all kind.Rule entries (λ (one : ℕ × Entry). rule_of entries one.1) (λ (r : RuleDefinition). list_all (instruction_within MAX_DEPTH (model_of draft)) r.instructions ≡ true) (λ place one there k. (rule-parts entries place one are sit there (rule-kind one.kind k)).0);
-      event_trees = kind-all kind.EventTree entries (λ (one : ℕ × Entry). tree_of entries one.1) (λ (t : EventTree). walk_within MAX_DEPTH (model_of draft) t.start ≡ true) (λ place one there k. (tree-parts entries place one are sit there (tree-kind one.kind k)).0);
-      functionals = kind-all kind.FunctionalEvent entries (λ (one : ℕ × Entry). functional_of entries one.1) (λ (f : Functional). TreeStands (model_of draft) f.tree) (λ place one there k. inside-tree draft is place one there (inl (functional-kind one.kind k)));
-      sequences = kind-all kind.Sequence entries (λ (one : ℕ × Entry). sequence_of entries one.1) (IsSequence (model_of draft)) (λ place one there k.
+      rules = kind-all kind.Rule entries (λ (one : ℕ × Entry). rule_of entries one.1)
+          (λ (r : RuleDefinition). list_all (instruction_within MAX_DEPTH (model_of draft)) r.instructions ≡ true)
+          (λ place one there k. (rule-parts entries place one are sit there (rule-kind one.kind k)).0);
+      event_trees = kind-all kind.EventTree entries (λ (one : ℕ × Entry). tree_of entries one.1)
+          (λ (t : EventTree). walk_within MAX_DEPTH (model_of draft) t.start ≡ true)
+          (λ place one there k. (tree-parts entries place one are sit there (tree-kind one.kind k)).0);
+      functionals = kind-all kind.FunctionalEvent entries (λ (one : ℕ × Entry). functional_of entries one.1)
+          (λ (f : Functional). TreeStands (model_of draft) f.tree)
+          (λ place one there k. inside-tree draft is place one there (inl (functional-kind one.kind k)));
+      sequences = kind-all kind.Sequence entries (λ (one : ℕ × Entry). sequence_of entries one.1)
+          (IsSequence (model_of draft)) (λ place one there k.
           (let kind_is = sequence-kind one.kind k in
           record {
-            instructions = (sequence-within MAX_DEPTH place entries one are sit (λ fewer l. walk-at fewer entries are sit) there kind_is (its-levels entries place one kind.Sequence are there kind_is refl)).0;
+            instructions = (sequence-within MAX_DEPTH place entries one are sit
+                (λ fewer l. walk-at fewer entries are sit) there kind_is
+                (its-levels entries place one kind.Sequence are there kind_is refl)).0;
             tree = inside-tree draft is place one there (inr (inl kind_is));
             link = sequence-link entries place one are there kind_is;
           }));
-      branches = kind-all kind.Branch entries (λ (one : ℕ × Entry). named_of entries one.1) (λ (n : NamedBranch). (walk_within MAX_DEPTH (model_of draft) n.branch ≡ true) × TreeStands (model_of draft) n.tree) (λ place one there k.
-          ((branch-parts entries place one are sit there (branch-kind one.kind k)).0, inside-tree draft is place one there (inr (inr (branch-kind one.kind k)))));
-      initiatings = kind-all kind.InitiatingEvent entries (λ (one : ℕ × Entry). initiating_of entries one.1) (λ (i : Initiating). IfSome i.tree (TreeStands (model_of draft))) (λ place one there k. initiating-link entries place one are there (initiating-kind one.kind k));
+      branches = kind-all kind.Branch entries (λ (one : ℕ × Entry). named_of entries one.1)
+          (λ (n : NamedBranch). (walk_within MAX_DEPTH (model_of draft) n.branch ≡ true) × TreeStands (model_of draft)
+          n.tree) (λ place one there k. (
+            (branch-parts entries place one are sit there (branch-kind one.kind k)).0,
+            inside-tree draft is place one there (inr (inr (branch-kind one.kind k))),
+          ));
+      initiatings = kind-all kind.InitiatingEvent entries (λ (one : ℕ × Entry). initiating_of entries one.1)
+          (λ (i : Initiating). IfSome i.tree (TreeStands (model_of draft)))
+          (λ place one there k. initiating-link entries place one are there (initiating-kind one.kind k));
     }

@@ -46,31 +46,46 @@ AreEntries entries = (place : ℕ) (one : Entry) → slice_get entries place ≡
 -- ---- ids
 
 -- the element of a definition in a list that is made of those of its kind
-pub made-at : {A : Type 0} (its : DefinitionKind) (entries : Entries) (make : ℕ × Entry → A) (place : ℕ) (one : Entry) → slice_get entries place ≡ Some one → is_kind its one ≡ true → slice_get (map make (all_of_kind its entries)) (id_of its entries place) ≡ Some (make (place, one))
+pub made-at : {A : Type 0} (its : DefinitionKind) (entries : Entries) (make : ℕ × Entry → A) (place : ℕ) (one : Entry)
+    → slice_get entries place ≡ Some one → is_kind its one ≡ true
+    → slice_get (map make (all_of_kind its entries)) (id_of its entries place) ≡ Some (make (place, one))
 made-at its entries make place one there passes =
     let zero_more : place ≡ 0 + place = omega arith in
     let r = kept-place (is_kind its) 0 entries place place one zero_more there passes in
-    let found : id_of its entries place ≡ r.0 = ap (λ o. unwrap_or o 0) (position-first (λ (o : ℕ × Entry). o.0 == place) (all_of_kind its entries) ∙ r.1) in
-    slice_get-map make (all_of_kind its entries) (id_of its entries place) ∙ ap (option_map make) (ap (slice_get (all_of_kind its entries)) found ∙ r.2)
+    let found : id_of its entries place ≡ r.0 =
+    ap (λ o. unwrap_or o 0) (position-first (λ (o : ℕ × Entry). o.0 == place) (all_of_kind its entries) ∙ r.1) in
+    slice_get-map make (all_of_kind its entries) (id_of its entries place)
+    ∙ ap (option_map make) (ap (slice_get (all_of_kind its entries)) found ∙ r.2)
 
 -- the definition of an element of such a list
-pub from-made : (its : DefinitionKind) (entries : Entries) (one : ℕ × Entry) → Has (all_of_kind its entries) one → (slice_get entries one.0 ≡ Some one.1) × (is_kind its one.1 ≡ true)
+pub from-made : (its : DefinitionKind) (entries : Entries) (one : ℕ × Entry) → Has (all_of_kind its entries) one
+    → (slice_get entries one.0 ≡ Some one.1) × (is_kind its one.1 ≡ true)
 from-made its entries one here =
-    let kept = from-kept (λ (o : ℕ × Entry). is_kind its o.1) _ one here in (from-enumerated entries one kept.0, kept.1)
+    let kept = from-kept (λ (o : ℕ × Entry). is_kind its o.1)
+    _ one here in (from-enumerated entries one kept.0, kept.1)
 
 -- ---- the search
 
-position-family : (entries : Entries) (family : Family) (rest : Entry → Bool) (place : ℕ) → position (λ one. is_in_family family one && rest one) entries ≡ Some place → (one : Entry) × (slice_get entries place ≡ Some one) × (is_in_family family one ≡ true)
+position-family : (entries : Entries) (family : Family) (rest : Entry → Bool) (place : ℕ)
+    → position (λ one. is_in_family family one && rest one) entries ≡ Some place
+    → (one : Entry) × (slice_get entries place ≡ Some one) × (is_in_family family one ≡ true)
 position-family entries family rest place h =
     let r = position-at (λ one. is_in_family family one && rest one) entries place h in
     (r.0, r.1, (and_parts (is_in_family family r.0) (rest r.0) r.2).0)
 
-position-both : (entries : Entries) (family : Family) (more rest : Entry → Bool) (place : ℕ) → position (λ one. is_in_family family one && more one && rest one) entries ≡ Some place → (one : Entry) × (slice_get entries place ≡ Some one) × (is_in_family family one ≡ true)
+position-both : (entries : Entries) (family : Family) (more rest : Entry → Bool) (place : ℕ)
+    → position (λ one. is_in_family family one && more one && rest one) entries ≡ Some place
+    → (one : Entry) × (slice_get entries place ≡ Some one) × (is_in_family family one ≡ true)
 position-both entries family more rest place h =
-    let r = position-at (λ one. is_in_family family one && more one && rest one) entries place h in
-    (r.0, r.1, (and_parts (is_in_family family r.0) (more r.0) (and_parts (is_in_family family r.0 && more r.0) (rest r.0) r.2).0).0)
+    let r = position-at (λ one. is_in_family family one && more one && rest one) entries place h in (
+      r.0,
+      r.1,
+      (and_parts (is_in_family family r.0) (more r.0)
+          (and_parts (is_in_family family r.0 && more r.0) (rest r.0) r.2).0).0,
+    )
 
-or-cases : {A : Type 0} (one other : Option A) (x : A) → option_or one other ≡ Some x → (one ≡ Some x) ⊎ (other ≡ Some x)
+or-cases : {A : Type 0} (one other : Option A) (x : A) → option_or one other ≡ Some x
+    → (one ≡ Some x) ⊎ (other ≡ Some x)
 or-cases None other x h = inr h
 or-cases (Some y) other x h = inl h
 
@@ -81,28 +96,40 @@ first-some (one ∷ others) x h = elim (or-cases one (first_some others) x h) [
   | inr later ↦ has-later one (Some x) others (first-some others x later)
 ]
 
-directly-at : (entries : Entries) (family : Family) (around : List Text) (name : Text) (place : ℕ) → one_directly_in entries family around name ≡ Some place → (one : Entry) × (slice_get entries place ≡ Some one) × (is_in_family family one ≡ true)
+directly-at : (entries : Entries) (family : Family) (around : List Text) (name : Text) (place : ℕ)
+    → one_directly_in entries family around name ≡ Some place
+    → (one : Entry) × (slice_get entries place ≡ Some one) × (is_in_family family one ≡ true)
 directly-at entries family around name place h =
     position-both entries family (λ one. same_texts one.container around) (has_name name) place h
 
-whole-at : (entries : Entries) (family : Family) (name : Text) (place : ℕ) → in_whole_model entries family name ≡ Some place → (one : Entry) × (slice_get entries place ≡ Some one) × (is_in_family family one ≡ true)
+whole-at : (entries : Entries) (family : Family) (name : Text) (place : ℕ)
+    → in_whole_model entries family name ≡ Some place
+    → (one : Entry) × (slice_get entries place ≡ Some one) × (is_in_family family one ≡ true)
 whole-at entries family name place h = position-family entries family _ place h
 
-public-at : (entries : Entries) (family : Family) (name : Text) (place : ℕ) → public_one entries family name ≡ Some place → (one : Entry) × (slice_get entries place ≡ Some one) × (is_in_family family one ≡ true)
+public-at : (entries : Entries) (family : Family) (name : Text) (place : ℕ)
+    → public_one entries family name ≡ Some place
+    → (one : Entry) × (slice_get entries place ≡ Some one) × (is_in_family family one ≡ true)
 public-at entries family name place h =
     position-both entries family (λ one. not one.private) (has_name name) place h
 
-scope-at : (entries : Entries) (family : Family) (container : List Text) (name : Text) (place : ℕ) → by_scope entries family container name ≡ Some place → (one : Entry) × (slice_get entries place ≡ Some one) × (is_in_family family one ≡ true)
+scope-at : (entries : Entries) (family : Family) (container : List Text) (name : Text) (place : ℕ)
+    → by_scope entries family container name ≡ Some place
+    → (one : Entry) × (slice_get entries place ≡ Some one) × (is_in_family family one ≡ true)
 scope-at entries family container name place h =
-    elim (or-cases (first_some (map (λ around. one_directly_in entries family around name) (outwards container))) (public_one entries family name) place h) [
+    elim (or-cases (first_some (map (λ around. one_directly_in entries family around name) (outwards container)))
+    (public_one entries family name) place h) [
       | inl inner ↦
-          let r = from-map (λ around. one_directly_in entries family around name) (outwards container) (Some place) (first-some _ place inner) in
+          let r = from-map (λ around. one_directly_in entries family around name) (outwards container) (Some place)
+          (first-some _ place inner) in
           directly-at entries family r.0 name place r.2
       | inr outer ↦ public-at entries family name place outer
     ]
 
 -- the search finds a definition of the family
-pub named-at : (entries : Entries) (family : Family) (container : List Text) (name : Text) (place : ℕ) → definition_named entries family container name ≡ Some place → (one : Entry) × (slice_get entries place ≡ Some one) × (is_in_family family one ≡ true)
+pub named-at : (entries : Entries) (family : Family) (container : List Text) (name : Text) (place : ℕ)
+    → definition_named entries family container name ≡ Some place
+    → (one : Entry) × (slice_get entries place ≡ Some one) × (is_in_family family one ≡ true)
 named-at entries family container name place h = elim (cases_Bool (is_path name)) [
   | inl path ↦ directly-at entries family _ _ place (rw path at h)
   | inr plain ↦ scope-at entries family container name place (rw plain at h)
@@ -111,83 +138,164 @@ named-at entries family container name place h = elim (cases_Bool (is_path name)
 -- ---- what a reference means
 
 -- a name in a definition stands for a definition of a kind
-pub record Meant (entries : Entries) (from : Entry) (its : DefinitionKind) (sought : ReferenceKind) (name : DraftReference) : Type 0 where
+pub record Meant (entries : Entries) (from : Entry) (its : DefinitionKind) (sought : ReferenceKind)
+    (name : DraftReference) : Type 0 where
   pub place : ℕ
   pub one : Entry
   pub meaning : meaning_of entries from (record { kind = sought; written = name }) ≡ Some (definition place)
   pub there : slice_get entries place ≡ Some one
   pub is : one.kind ≡ its
 
-found : (entries : Entries) (family : Family) (sought : ReferenceKind) (o : Option ℕ) → ((place : ℕ) → o ≡ Some place → (one : Entry) × (slice_get entries place ≡ Some one) × (is_in_family family one ≡ true)) → is_none (reference_fault entries sought (option_map definition o)) ≡ true → (place : ℕ) × (one : Entry) × (o ≡ Some place) × (slice_get entries place ≡ Some one) × (is_in_family family one ≡ true)
+found : (entries : Entries) (family : Family) (sought : ReferenceKind) (o : Option ℕ)
+    → ((place : ℕ) → o ≡ Some place
+    → (one : Entry) × (slice_get entries place ≡ Some one) × (is_in_family family one ≡ true))
+    → is_none (reference_fault entries sought (option_map definition o)) ≡ true
+    → (place : ℕ) × (one : Entry) × (o ≡ Some place) × (slice_get entries place ≡ Some one)
+    × (is_in_family family one ≡ true)
 found entries family sought None at h = absurd (false≢true h)
 found entries family sought (Some place) at h = let r = at place refl in (place, r.0, refl, r.1, r.2)
 
-pub parameter-meant : (entries : Entries) (from : Entry) (name : DraftReference) → stands entries from (record { kind = parameter; written = name }) ≡ true → Meant entries from kind.Parameter parameter name
+pub parameter-meant : (entries : Entries) (from : Entry) (name : DraftReference)
+    → stands entries from (record { kind = parameter; written = name }) ≡ true
+    → Meant entries from kind.Parameter parameter name
 parameter-meant entries from name h =
     let r = found entries parameters parameter _ (named-at entries parameters (scope_of from) name.name) h in
-    record { place = r.0; one = r.1; meaning = ap (option_map definition) r.2; there = r.3; is = is-parameter r.1.kind r.4 }
+    record {
+      place = r.0;
+      one = r.1;
+      meaning = ap (option_map definition) r.2;
+      there = r.3;
+      is = is-parameter r.1.kind r.4;
+    }
 
-pub tree-meant : (entries : Entries) (from : Entry) (name : DraftReference) → stands entries from (record { kind = event_tree; written = name }) ≡ true → Meant entries from kind.EventTree event_tree name
+pub tree-meant : (entries : Entries) (from : Entry) (name : DraftReference)
+    → stands entries from (record { kind = event_tree; written = name }) ≡ true
+    → Meant entries from kind.EventTree event_tree name
 tree-meant entries from name h =
     let r = found entries event_trees event_tree _ (whole-at entries event_trees name.name) h in
-    record { place = r.0; one = r.1; meaning = ap (option_map definition) r.2; there = r.3; is = is-event-tree r.1.kind r.4 }
+    record {
+      place = r.0;
+      one = r.1;
+      meaning = ap (option_map definition) r.2;
+      there = r.3;
+      is = is-event-tree r.1.kind r.4;
+    }
 
-pub rule-meant : (entries : Entries) (from : Entry) (name : DraftReference) → stands entries from (record { kind = rule; written = name }) ≡ true → Meant entries from kind.Rule rule name
+pub rule-meant : (entries : Entries) (from : Entry) (name : DraftReference)
+    → stands entries from (record { kind = rule; written = name }) ≡ true → Meant entries from kind.Rule rule name
 rule-meant entries from name h =
     let r = found entries rules rule _ (whole-at entries rules name.name) h in
-    record { place = r.0; one = r.1; meaning = ap (option_map definition) r.2; there = r.3; is = is-rule r.1.kind r.4 }
+    record {
+      place = r.0;
+      one = r.1;
+      meaning = ap (option_map definition) r.2;
+      there = r.3;
+      is = is-rule r.1.kind r.4;
+    }
 
-pub initiating-meant : (entries : Entries) (from : Entry) (name : DraftReference) → stands entries from (record { kind = initiating_event; written = name }) ≡ true → Meant entries from kind.InitiatingEvent initiating_event name
+pub initiating-meant : (entries : Entries) (from : Entry) (name : DraftReference)
+    → stands entries from (record { kind = initiating_event; written = name }) ≡ true
+    → Meant entries from kind.InitiatingEvent initiating_event name
 initiating-meant entries from name h =
     let r = found entries initiating_events initiating_event _ (whole-at entries initiating_events name.name) h in
-    record { place = r.0; one = r.1; meaning = ap (option_map definition) r.2; there = r.3; is = is-initiating r.1.kind r.4 }
+    record {
+      place = r.0;
+      one = r.1;
+      meaning = ap (option_map definition) r.2;
+      there = r.3;
+      is = is-initiating r.1.kind r.4;
+    }
 
-pub sequence-meant : (entries : Entries) (from : Entry) (name : DraftReference) → stands entries from (record { kind = sequence; written = name }) ≡ true → Meant entries from kind.Sequence sequence name
+pub sequence-meant : (entries : Entries) (from : Entry) (name : DraftReference)
+    → stands entries from (record { kind = sequence; written = name }) ≡ true
+    → Meant entries from kind.Sequence sequence name
 sequence-meant entries from name h =
     let r = found entries sequences sequence _ (directly-at entries sequences _ name.name) h in
-    record { place = r.0; one = r.1; meaning = ap (option_map definition) r.2; there = r.3; is = is-sequence r.1.kind r.4 }
+    record {
+      place = r.0;
+      one = r.1;
+      meaning = ap (option_map definition) r.2;
+      there = r.3;
+      is = is-sequence r.1.kind r.4;
+    }
 
-pub branch-meant : (entries : Entries) (from : Entry) (name : DraftReference) → stands entries from (record { kind = branch; written = name }) ≡ true → Meant entries from kind.Branch branch name
+pub branch-meant : (entries : Entries) (from : Entry) (name : DraftReference)
+    → stands entries from (record { kind = branch; written = name }) ≡ true
+    → Meant entries from kind.Branch branch name
 branch-meant entries from name h =
     let r = found entries branches branch _ (directly-at entries branches _ name.name) h in
-    record { place = r.0; one = r.1; meaning = ap (option_map definition) r.2; there = r.3; is = is-branch r.1.kind r.4 }
+    record {
+      place = r.0;
+      one = r.1;
+      meaning = ap (option_map definition) r.2;
+      there = r.3;
+      is = is-branch r.1.kind r.4;
+    }
 
-pub functional-meant : (entries : Entries) (from : Entry) (name : DraftReference) → stands entries from (record { kind = functional_event; written = name }) ≡ true → Meant entries from kind.FunctionalEvent functional_event name
+pub functional-meant : (entries : Entries) (from : Entry) (name : DraftReference)
+    → stands entries from (record { kind = functional_event; written = name }) ≡ true
+    → Meant entries from kind.FunctionalEvent functional_event name
 functional-meant entries from name h =
-    let r = found entries functional_events functional_event _ (directly-at entries functional_events _ name.name) h in
-    record { place = r.0; one = r.1; meaning = ap (option_map definition) r.2; there = r.3; is = is-functional r.1.kind r.4 }
+    let r = found entries functional_events functional_event _ (directly-at entries functional_events _ name.name)
+    h in
+    record {
+      place = r.0;
+      one = r.1;
+      meaning = ap (option_map definition) r.2;
+      there = r.3;
+      is = is-functional r.1.kind r.4;
+    }
 
 -- ---- events
 
 -- what stands for an event: a definition of one, or the basic event that a group defines
 abbrev pub IsEvent : Entries → Meaning → Type 0
-IsEvent entries (definition place) = (one : Entry) × (slice_get entries place ≡ Some one) × (is_in_family events one ≡ true)
+IsEvent entries (definition place) = (one : Entry) × (slice_get entries place ≡ Some one)
+    × (is_in_family events one ≡ true)
 IsEvent entries (of_group name) = is_defined_by_group entries name ≡ true
 
-event-parts : (entries : Entries) (container : List Text) (name : Text) (o : Option ℕ) (m : Meaning) → ((place : ℕ) → o ≡ Some place → (one : Entry) × (slice_get entries place ≡ Some one) × (is_in_family events one ≡ true)) → option_or (option_map definition o) (if not (is_path name) && is_defined_by_group entries name then Some (of_group name) else None) ≡ Some m → IsEvent entries m
-event-parts entries container name (Some place) m at h = let same : definition place ≡ m = cc in subst (IsEvent entries) same (at place refl)
-event-parts entries container name None m at h = elim (cases_Bool (not (is_path name) && is_defined_by_group entries name)) [
-  | inl both ↦ let same : of_group name ≡ m = let k = rw both at h in cc in subst (IsEvent entries) same (and_parts (not (is_path name)) (is_defined_by_group entries name) both).1
-  | inr neither ↦ absurd (none-some m (rw neither at h))
-]
+event-parts : (entries : Entries) (container : List Text) (name : Text) (o : Option ℕ) (m : Meaning)
+    → ((place : ℕ) → o ≡ Some place
+    → (one : Entry) × (slice_get entries place ≡ Some one) × (is_in_family events one ≡ true))
+    → option_or (option_map definition o) (if not (is_path name) && is_defined_by_group entries name then Some
+    (of_group name) else None) ≡ Some m → IsEvent entries m
+event-parts entries container name (Some place) m at h = let same : definition place ≡ m =
+    cc in subst (IsEvent entries) same (at place refl)
+event-parts entries container name None m at h =
+    elim (cases_Bool (not (is_path name) && is_defined_by_group entries name)) [
+      | inl both ↦ let same : of_group name ≡ m = let k = rw both at h in cc in subst (IsEvent entries) same
+          (and_parts (not (is_path name)) (is_defined_by_group entries name) both).1
+      | inr neither ↦ absurd (none-some m (rw neither at h))
+    ]
 
-pub event-at : (entries : Entries) (container : List Text) (name : Text) (m : Meaning) → meaning_of_event entries container name ≡ Some m → IsEvent entries m
+pub event-at : (entries : Entries) (container : List Text) (name : Text) (m : Meaning)
+    → meaning_of_event entries container name ≡ Some m → IsEvent entries m
 event-at entries container name m h =
-    event-parts entries container name (definition_named entries events container name) m (named-at entries events container name) h
+    event-parts entries container name (definition_named entries events container name) m
+    (named-at entries events container name) h
 
-house-parts : (entries : Entries) (o : Option Meaning) → is_none (reference_fault entries (event asked.House) o) ≡ true → (place : ℕ) × (one : Entry) × (o ≡ Some (definition place)) × (slice_get entries place ≡ Some one) × (one.kind ≡ kind.HouseEvent)
+house-parts : (entries : Entries) (o : Option Meaning)
+    → is_none (reference_fault entries (event asked.House) o) ≡ true
+    → (place : ℕ) × (one : Entry) × (o ≡ Some (definition place)) × (slice_get entries place ≡ Some one)
+    × (one.kind ≡ kind.HouseEvent)
 house-parts entries None h = absurd (false≢true h)
 house-parts entries (Some (of_group name)) h = absurd (false≢true h)
 house-parts entries (Some (definition place)) h = by_entry (slice_get entries place) refl h
   where
-    by_entry : (found : Option Entry) → slice_get entries place ≡ found → is_none (if option_map_or (λ one. has_kind (event asked.House) one.kind) found false then None else Some fault.WrongKind) ≡ true → (p : ℕ) × (one : Entry) × (Some (definition place) ≡ Some (definition p)) × (slice_get entries p ≡ Some one) × (one.kind ≡ kind.HouseEvent)
+    by_entry : (found : Option Entry) → slice_get entries place ≡ found
+        → is_none (if option_map_or (λ one. has_kind (event asked.House) one.kind)
+        found false then None else Some fault.WrongKind) ≡ true
+        → (p : ℕ) × (one : Entry) × (Some (definition place) ≡ Some (definition p)) × (slice_get entries p ≡ Some one)
+        × (one.kind ≡ kind.HouseEvent)
     by_entry None at k = absurd (false≢true k)
     by_entry (Some one) at k = elim (cases_Bool (has_kind (event asked.House) one.kind)) [
       | inl right ↦ (place, one, refl, at, is-house one.kind right)
       | inr wrong ↦ absurd (false≢true (rw wrong at k))
     ]
 
-pub house-meant : (entries : Entries) (from : Entry) (name : DraftReference) → stands entries from (record { kind = event asked.House; written = name }) ≡ true → Meant entries from kind.HouseEvent (event asked.House) name
+pub house-meant : (entries : Entries) (from : Entry) (name : DraftReference)
+    → stands entries from (record { kind = event asked.House; written = name }) ≡ true
+    → Meant entries from kind.HouseEvent (event asked.House) name
 house-meant entries from name h =
     let r = house-parts entries (meaning_of_event entries (scope_of from) name.name) h in
     record { place = r.0; one = r.1; meaning = r.2; there = r.3; is = r.4 }
@@ -195,16 +303,25 @@ house-meant entries from name h =
 -- ---- where it leads
 
 -- the element of what is meant, in a list that is made of the definitions of its kind
-pub referred-at : {A : Type 0} (entries : Entries) (from : Entry) (its : DefinitionKind) (sought : ReferenceKind) (name : DraftReference) (make : ℕ × Entry → A) (m : Meant entries from its sought name) → kind_number its == kind_number its ≡ true → slice_get (map make (all_of_kind its entries)) (referred_id its sought entries from name) ≡ Some (make (m.place, m.one))
+pub referred-at : {A : Type 0} (entries : Entries) (from : Entry) (its : DefinitionKind) (sought : ReferenceKind)
+    (name : DraftReference) (make : ℕ × Entry → A) (m : Meant entries from its sought name)
+    → kind_number its == kind_number its ≡ true
+    → slice_get (map make (all_of_kind its entries)) (referred_id its sought entries from name) ≡ Some
+    (make (m.place, m.one))
 referred-at entries from its sought name make m same =
     let right : is_kind its m.one ≡ true = ap (λ k. kind_number k == kind_number its) m.is ∙ same in
-    ap (slice_get (map make (all_of_kind its entries))) (ap (id_of_meaning its entries) m.meaning) ∙ made-at its entries make m.place m.one m.there right
+    ap (slice_get (map make (all_of_kind its entries))) (ap (id_of_meaning its entries) m.meaning)
+    ∙ made-at its entries make m.place m.one m.there right
 
 -- what passes on from a reference passes at the definition that is meant
-pub led-on : (entries : Entries) (from : Entry) (its : DefinitionKind) (sought : ReferenceKind) (name : DraftReference) (test : Entry → Bool) (m : Meant entries from its sought name) → is_chained its ≡ true → passes_on test entries (followed entries from (record { kind = sought; written = name })) ≡ true → test m.one ≡ true
+pub led-on : (entries : Entries) (from : Entry) (its : DefinitionKind) (sought : ReferenceKind)
+    (name : DraftReference) (test : Entry → Bool) (m : Meant entries from its sought name) → is_chained its ≡ true
+    → passes_on test entries (followed entries from (record { kind = sought; written = name })) ≡ true
+    → test m.one ≡ true
 led-on entries from its sought name test m chained h =
     let one_chained : is_chained m.one.kind ≡ true = ap is_chained m.is ∙ chained in
     let placed : chained_place entries (definition m.place) ≡ Some m.place = rw m.there (rw one_chained refl) in
-    let on : followed entries from (record { kind = sought; written = name }) ≡ Some m.place = ap (option_and_then (chained_place entries)) m.meaning ∙ placed in
+    let on : followed entries from (record { kind = sought; written = name }) ≡ Some m.place =
+    ap (option_and_then (chained_place entries)) m.meaning ∙ placed in
     let passed = subst (λ o. passes_on test entries o ≡ true) on h in
     rw m.there at passed

@@ -31,7 +31,8 @@ out-initiating : (id : InitiatingId) → out-Test (test.Initiating id) ≡ Test-
 out-initiating id = ap out-Test (sym (test.rolls-Initiating id)) ∙ out-roll-Test (Test-F.Initiating id)
 
 out-functional : (name state : List ℕ) → out-Test (test.Functional name state) ≡ Test-F.Functional name state
-out-functional name state = ap out-Test (sym (test.rolls-Functional name state)) ∙ out-roll-Test (Test-F.Functional name state)
+out-functional name state = ap out-Test (sym (test.rolls-Functional name state))
+    ∙ out-roll-Test (Test-F.Functional name state)
 
 out-all : (tests : List Test) → out-Test (test.All tests) ≡ Test-F.All tests
 out-all tests = ap out-Test (sym (test.rolls-All tests)) ∙ out-roll-Test (Test-F.All tests)
@@ -44,41 +45,70 @@ out-not tests = ap out-Test (sym (test.rolls-Not tests)) ∙ out-roll-Test (Test
 
 -- each test of these levels in a definition is within as many in the model
 abbrev pub TestsAt : Entries → ℕ → Type 0
-TestsAt entries levels = (from : Entry) (t : DraftTest) → Fine entries levels from (test_outline t ∷ []) (test_contents t ∷ []) → test_within levels (model_from entries) (resolved_test entries from t) ≡ true
+TestsAt entries levels = (from : Entry) (t : DraftTest)
+    → Fine entries levels from (test_outline t ∷ []) (test_contents t ∷ [])
+    → test_within levels (model_from entries) (resolved_test entries from t) ≡ true
 
 abbrev pub initiating_of : Entries → Entry → Initiating
-initiating_of entries one = record { name = one.name; place = one.place; tree = option_map (λ id. record { 0 = id }) (linked_id entries one) }
+initiating_of entries one = record {
+  name = one.name;
+  place = one.place;
+  tree = option_map (λ id. record { 0 = id }) (linked_id entries one);
+}
 
-some-tests : (levels : ℕ) (entries : Entries) (from : Entry) (tests : List DraftTest) (right : ℕ → Bool) → TestsAt entries levels → right (length (map test_contents tests)) ≡ true → Fine entries levels from (map test_outline tests) (map test_contents tests) → (right (length (map (resolved_test entries from) tests)) && list_all (λ t. test_within levels (model_from entries) t) (map (resolved_test entries from) tests)) ≡ true
+some-tests : (levels : ℕ) (entries : Entries) (from : Entry) (tests : List DraftTest) (right : ℕ → Bool)
+    → TestsAt entries levels → right (length (map test_contents tests)) ≡ true
+    → Fine entries levels from (map test_outline tests) (map test_contents tests)
+    → (right (length (map (resolved_test entries from) tests)) && list_all
+    (λ t. test_within levels (model_from entries) t) (map (resolved_test entries from) tests)) ≡ true
 some-tests levels entries from tests right below number fine =
-    let all = fine-each entries levels from test_outline test_contents (λ t. test_within levels (model_from entries) (resolved_test entries from t)) (below from) tests fine in
+    let all = fine-each entries levels from test_outline test_contents
+    (λ t. test_within levels (model_from entries) (resolved_test entries from t)) (below from) tests fine in
     and_from _ _
     (ap right (length-map tests (resolved_test entries from) ∙ sym (length-map tests test_contents)) ∙ number)
     (list_all-mapped (λ t. test_within levels (model_from entries) t) (resolved_test entries from) tests ∙ all)
 
-layer-within : (levels : ℕ) (entries : Entries) (from : Entry) → AreEntries entries → TestsAt entries levels → (x : DraftTest-F DraftTest) → Fine entries (suc levels) from (outline_layer (map-DraftTest DraftTest Outline test_outline x) ∷ []) (test_contents_step (map-DraftTest DraftTest Contents test_contents x) ∷ []) → test_within (suc levels) (model_from entries) (resolved_test_layer entries from (map-DraftTest DraftTest Test (resolved_test entries from) x)) ≡ true
+layer-within : (levels : ℕ) (entries : Entries) (from : Entry) → AreEntries entries → TestsAt entries levels
+    → (x : DraftTest-F DraftTest)
+    → Fine entries (suc levels) from (outline_layer (map-DraftTest DraftTest Outline test_outline x) ∷ [])
+    (test_contents_step (map-DraftTest DraftTest Contents test_contents x) ∷ [])
+    → test_within (suc levels) (model_from entries)
+    (resolved_test_layer entries from (map-DraftTest DraftTest Test (resolved_test entries from) x)) ≡ true
 unfolding test_within
 layer-within levels entries from are below (DraftTest-F.Initiating name) fine =
-    let inner = inside entries levels from (Some (record { kind = initiating_event; written = name })) [] true (Some name) [] fine in
+    let inner = inside entries levels from (Some (record { kind = initiating_event; written = name })) [] true
+    (Some name) [] fine in
     let m = initiating-meant entries from name (and_parts _ true inner.own).0 in
     let id = referred_id kind.InitiatingEvent initiating_event entries from name in
-    let at = referred-at entries from kind.InitiatingEvent initiating_event name (λ one. initiating_of entries one.1) m refl in
+    let at = referred-at entries from kind.InitiatingEvent initiating_event name (λ one. initiating_of entries one.1)
+    m refl in
     rw (out-initiating (record { 0 = id })) (lt-ltb id _ (slice_get_within (model_from entries).initiatings id _ at))
-layer-within levels entries from are below (DraftTest-F.Functional name state) fine = rw (out-functional name.name state) refl
+layer-within levels entries from are below (DraftTest-F.Functional name state) fine =
+    rw (out-functional name.name state) refl
 layer-within levels entries from are below (DraftTest-F.All tests) fine =
-    let inner = inside entries levels from None (map test_outline tests) (nat_le 1 (length (map test_contents tests))) None (map test_contents tests) fine in
-    rw (out-all (map (resolved_test entries from) tests)) (some-tests levels entries from tests (nat_le 1) below inner.right_number inner.fine)
+    let inner = inside entries levels from None (map test_outline tests) (nat_le 1 (length (map test_contents tests)))
+    None (map test_contents tests) fine in
+    rw (out-all (map (resolved_test entries from) tests))
+    (some-tests levels entries from tests (nat_le 1) below inner.right_number inner.fine)
 layer-within levels entries from are below (DraftTest-F.Any tests) fine =
-    let inner = inside entries levels from None (map test_outline tests) (nat_le 1 (length (map test_contents tests))) None (map test_contents tests) fine in
-    rw (out-any (map (resolved_test entries from) tests)) (some-tests levels entries from tests (nat_le 1) below inner.right_number inner.fine)
+    let inner = inside entries levels from None (map test_outline tests) (nat_le 1 (length (map test_contents tests)))
+    None (map test_contents tests) fine in
+    rw (out-any (map (resolved_test entries from) tests))
+    (some-tests levels entries from tests (nat_le 1) below inner.right_number inner.fine)
 layer-within levels entries from are below (DraftTest-F.Not tests) fine =
-    let inner = inside entries levels from None (map test_outline tests) (length (map test_contents tests) == 1) None (map test_contents tests) fine in
-    rw (out-not (map (resolved_test entries from) tests)) (some-tests levels entries from tests (λ n. n == 1) below inner.right_number inner.fine)
+    let inner = inside entries levels from None (map test_outline tests) (length (map test_contents tests) == 1) None
+    (map test_contents tests) fine in
+    rw (out-not (map (resolved_test entries from) tests))
+    (some-tests levels entries from tests (λ n. n == 1) below inner.right_number inner.fine)
 
 -- a test within some levels in a definition is within as many in the model
 pub test-within : (levels : ℕ) (entries : Entries) → AreEntries entries → TestsAt entries levels
 test-within zero entries are from t fine = absurd (some-level entries from _ [] _ fine)
 test-within (suc levels) entries are from t fine =
-    let laid = subst (λ (o : Outline). Fine entries (suc levels) from (o ∷ []) (test_contents t ∷ [])) (fold_out-DraftTest Outline outline_layer t) fine in
-    let both = subst (λ (c : Contents). Fine entries (suc levels) from (outline_layer (map-DraftTest DraftTest Outline test_outline (out-DraftTest t)) ∷ []) (c ∷ [])) (fold_out-DraftTest Contents test_contents_step t) laid in
-    ap (test_within (suc levels) (model_from entries)) (fold_out-DraftTest Test (resolved_test_layer entries from) t) ∙ layer-within levels entries from are (test-within levels entries are) (out-DraftTest t) both
+    let laid = subst (λ (o : Outline). Fine entries (suc levels) from (o ∷ []) (test_contents t ∷ []))
+    (fold_out-DraftTest Outline outline_layer t) fine in
+    let both = subst (λ (c : Contents). Fine entries (suc levels) from
+    (outline_layer (map-DraftTest DraftTest Outline test_outline (out-DraftTest t)) ∷ []) (c ∷ []))
+    (fold_out-DraftTest Contents test_contents_step t) laid in
+    ap (test_within (suc levels) (model_from entries)) (fold_out-DraftTest Test (resolved_test_layer entries from) t)
+    ∙ layer-within levels entries from are (test-within levels entries are) (out-DraftTest t) both
