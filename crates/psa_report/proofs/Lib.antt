@@ -1,0 +1,4 @@
+pub mod WrittenLemmas
+pub mod JoinedLemmas
+pub mod PartLemmas
+pub mod HeadLemmas
