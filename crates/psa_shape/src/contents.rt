@@ -53,7 +53,7 @@ fn count_in(part: Part, children: &[Element]) -> usize
 }
 
 /// Whether so many children of a part may stand.
-fn may_be(part: Part, count: usize) -> bool
+fn is_allowed(part: Part, count: usize) -> bool
     ensures { result ≡ (nat_le part.least count && definition.is_at_most count part.most) }
 {
     let is_at_most = match part.most {
@@ -67,7 +67,10 @@ fn may_be(part: Part, count: usize) -> bool
 fn has_number(part: Part, children: &[Element]) -> bool
     ensures { result ≡ definition.has_number (counted children.now) (seen_part part) }
 {
-    may_be(part, count_in(part, children))
+    if part.least == 0 && part.most.is_none() {
+        return true;
+    }
+    is_allowed(part, count_in(part, children))
 }
 
 /// Whether each part has its number of children.
@@ -149,13 +152,13 @@ fn has_bounds(row: Row, given: &[Attribute], children: &[Element]) -> bool
         ≡ definition.has_bounds (row_of row) given.now (length (counted children.now)) }
 {
     match row {
-        Row::Connective(connective) => are_enough(connective, given, count_of(children)),
+        Row::Connective(connective) => is_within_bounds(connective, given, count_of(children)),
         _ => true,
     }
 }
 
 /// Whether a connective has its number of arguments by `min` and `max`.
-fn are_enough(connective: Connective, given: &[Attribute], count: usize) -> bool
+fn is_within_bounds(connective: Connective, given: &[Attribute], count: usize) -> bool
     requires { HasNumbers (rows.connective connective) given.now }
     ensures { result ≡ definition.has_bounds (rows.connective connective) given.now count }
 {
