@@ -1,0 +1,16 @@
+pub mod DraftForms
+pub mod ReadingInOrder
+pub mod NumberedDefinitions
+pub mod ReadForms
+pub mod GroupEvents
+pub mod NumberingInOrder
+pub mod CountedMembers
+pub mod Numberable
+pub mod JoinedPaths
+pub mod NamedTrees
+pub mod DistinctTrees
+pub mod MadeDefinitions
+pub mod CollectingInOrder
+pub mod CollectedForms
+pub mod BranchForms
+pub mod WalkForms

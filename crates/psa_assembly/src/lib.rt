@@ -1,0 +1,17 @@
+//! The model of a draft whose names are found and without fault.
+#![tactic(auto)]
+
+mod branches;
+mod collected;
+mod context;
+mod cursor;
+mod definitions;
+mod expressions;
+mod formulas;
+mod instructions;
+mod names;
+mod numbering;
+mod numbers;
+mod tests;
+mod trees;
+mod walks;
