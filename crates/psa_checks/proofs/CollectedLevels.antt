@@ -20,14 +20,15 @@ use Rattle.psa_names.specs.Chains.{is_within}
 use Rattle.psa_names.specs.Resolved.{resolved_formula}
 use Rattle.psa_names.specs.Collected.{collected_by, collected_layer, end_collected, branch_collected}
 use Rattle.psa_names.specs.ModelOfDraft.{model_from}
-use Rattle.psa_checks.proofs.Places.{all-append, all-joined, all-more}
-use Rattle.psa_checks.proofs.Standing.{AreEntries}
-use Rattle.psa_checks.proofs.Fine.{Fine, all_stand, some-level, inside, fine-parts}
-use Rattle.psa_checks.proofs.Formulas.{formula-within}
-use Rattle.psa_checks.proofs.Sitting.{collected-of, layer-fine, block-parts, if-parts}
-use Rattle.psa_checks.proofs.Walks.{outlines-suc, collected-suc, numbers-suc}
-use Rattle.psa_checks.proofs.NestedWalks.{none-collected}
+use Rattle.psa_checks.proofs.ListPlaces.{all-append, all-joined, all-more}
+use Rattle.psa_checks.proofs.Definitions.{AreEntries}
+use Rattle.psa_checks.proofs.SoundElements.{IsSound, all_stand, some-level, inside, sound-parts}
+use Rattle.psa_checks.proofs.FormulaLevels.{formula-within}
+use Rattle.psa_checks.proofs.CollectedPlaces.{collected-of, layer-sound, block-parts, if-parts}
+use Rattle.psa_checks.proofs.BranchForms.{outlines-suc, collected-suc, numbers-suc}
+use Rattle.psa_checks.proofs.CollectedNesting.{none-collected}
 
+-- a formula in a definition is within so many levels in the model
 abbrev pub resolves_within : ℕ → Entries → Entry → DraftFormula → Bool
 resolves_within levels entries from f = within levels (model_from entries) (resolved_formula entries from f)
 
@@ -40,29 +41,29 @@ resolves-more levels entries from fs h =
 
 abbrev CollectedAt : Entries → ℕ → Type 0
 CollectedAt entries levels = (from : Entry) (i : DraftInstruction)
-    → Fine entries levels from (instruction_outline i ∷ []) (instruction_contents i ∷ [])
+    → IsSound entries levels from (instruction_outline i ∷ []) (instruction_contents i ∷ [])
     → list_all (resolves_within levels entries from) (collected_by i) ≡ true
 
 each-collected : (levels : ℕ) (entries : Entries) (from : Entry) → CollectedAt entries levels
     → (all : List DraftInstruction)
-    → Fine entries levels from (map instruction_outline all) (map instruction_contents all)
+    → IsSound entries levels from (map instruction_outline all) (map instruction_contents all)
     → list_all (resolves_within levels entries from) (flat_map (λ fs. fs) (map collected_by all)) ≡ true
 each-collected levels entries from at [] fine = refl
 each-collected levels entries from at (i ∷ all) fine =
-    let parts = fine-parts entries levels from (instruction_outline i ∷ []) (map instruction_outline all)
+    let parts = sound-parts entries levels from (instruction_outline i ∷ []) (map instruction_outline all)
     (instruction_contents i ∷ []) (map instruction_contents all) fine in
     all-joined (resolves_within levels entries from) (collected_by i) _ (at from i parts.0)
     (each-collected levels entries from at all parts.1)
 
 collected-layer : (levels : ℕ) (entries : Entries) (from : Entry) → AreEntries entries → CollectedAt entries levels
     → (x : DraftInstruction-F DraftInstruction)
-    → Fine entries (suc levels) from (outline_layer
+    → IsSound entries (suc levels) from (outline_layer
     (map-DraftInstruction DraftInstruction Outline instruction_outline x) ∷ [])
     (instruction_step (map-DraftInstruction DraftInstruction Contents instruction_contents x) ∷ [])
     → list_all (resolves_within (suc levels) entries from)
     (collected_layer (map-DraftInstruction DraftInstruction (List DraftFormula) collected_by x)) ≡ true
 collected-layer levels entries from are below (DraftInstruction-F.Collect f) fine =
-    let whole : Fine entries (suc levels) from (plain (formula_outline f ∷ []) ∷ [])
+    let whole : IsSound entries (suc levels) from (plain (formula_outline f ∷ []) ∷ [])
     (element_contents true None (formula_contents f ∷ []) ∷ []) =
     record { within = fine.within; stand = fine.stand; numbers = fine.numbers } in
     let inner = inside entries levels from None (formula_outline f ∷ []) true None (formula_contents f ∷ []) whole in
@@ -85,16 +86,16 @@ collected-at (suc levels) entries are from i fine =
     subst (λ (fs : List DraftFormula). list_all (resolves_within (suc levels) entries from) fs ≡ true)
     (sym (collected-of i))
     (collected-layer levels entries from are (collected-at levels entries are) (out-DraftInstruction i)
-    (layer-fine entries (suc levels) from i fine))
+    (layer-sound entries (suc levels) from i fine))
 
 -- the formulas that instructions within some levels collect are within as many
 pub steps-resolve : (levels : ℕ) (entries : Entries) (from : Entry) → AreEntries entries
     → (all : List DraftInstruction)
-    → Fine entries levels from (map instruction_outline all) (map instruction_contents all)
+    → IsSound entries levels from (map instruction_outline all) (map instruction_contents all)
     → list_all (resolves_within levels entries from) (flat_map collected_by all) ≡ true
 steps-resolve levels entries from are [] fine = refl
 steps-resolve levels entries from are (i ∷ all) fine =
-    let parts = fine-parts entries levels from (instruction_outline i ∷ []) (map instruction_outline all)
+    let parts = sound-parts entries levels from (instruction_outline i ∷ []) (map instruction_outline all)
     (instruction_contents i ∷ []) (map instruction_contents all) fine in
     all-joined (resolves_within levels entries from) (collected_by i) _
     (collected-at levels entries are from i parts.0) (steps-resolve levels entries from are all parts.1)
@@ -103,16 +104,16 @@ steps-resolve levels entries from are (i ∷ all) fine =
 
 abbrev BranchAt : Entries → ℕ → Type 0
 BranchAt entries depth = (levels : ℕ) (from : Entry) (b : DraftBranch)
-    → Fine entries levels from (branch_outlines depth b) (branch_contents depth b ∷ [])
+    → IsSound entries levels from (branch_outlines depth b) (branch_contents depth b ∷ [])
     → list_all (resolves_within levels entries from) (branch_collected depth b) ≡ true
 
 path-resolves : (depth levels : ℕ) (entries : Entries) (from : Entry) (path : DraftForkPath) → BranchAt entries depth
-    → Fine entries levels from (plain (branch_outlines depth path.branch) ∷ [])
+    → IsSound entries levels from (plain (branch_outlines depth path.branch) ∷ [])
     (path_contents (λ b. branch_contents depth b) path ∷ [])
     → list_all (resolves_within levels entries from) (branch_collected depth path.branch) ≡ true
 path-resolves depth zero entries from path at fine = absurd (some-level entries from _ [] _ fine)
 path-resolves depth (suc levels) entries from path at fine =
-    let whole : Fine entries (suc levels) from (plain (branch_outlines depth path.branch) ∷ [])
+    let whole : IsSound entries (suc levels) from (plain (branch_outlines depth path.branch) ∷ [])
     (element_contents true None (branch_contents depth path.branch ∷ []) ∷ []) =
     record { within = fine.within; stand = fine.stand; numbers = fine.numbers } in
     let inner = inside entries levels from None (branch_outlines depth path.branch) true None
@@ -124,13 +125,13 @@ path_outline depth path = plain (branch_outlines depth path.branch)
 
 paths-resolve : (depth levels : ℕ) (entries : Entries) (from : Entry) → BranchAt entries depth
     → (paths : List DraftForkPath)
-    → Fine entries levels from (map (path_outline depth) paths)
+    → IsSound entries levels from (map (path_outline depth) paths)
     (map (path_contents (λ b. branch_contents depth b)) paths)
     → list_all (resolves_within levels entries from) (flat_map (λ path. branch_collected depth path.branch) paths)
     ≡ true
 paths-resolve depth levels entries from at [] fine = refl
 paths-resolve depth levels entries from at (path ∷ paths) fine =
-    let parts = fine-parts entries levels from (path_outline depth path ∷ []) (map (path_outline depth) paths)
+    let parts = sound-parts entries levels from (path_outline depth path ∷ []) (map (path_outline depth) paths)
     (path_contents (λ b. branch_contents depth b) path ∷ [])
     (map (path_contents (λ b. branch_contents depth b)) paths) fine in
     all-joined (resolves_within levels entries from) (branch_collected depth path.branch) _
@@ -139,7 +140,7 @@ paths-resolve depth levels entries from at (path ∷ paths) fine =
 
 end-resolves : (depth levels : ℕ) (entries : Entries) (from : Entry) → BranchAt entries depth
     → (x : DraftBranchEnd-F DraftBranchEnd DraftBranch DraftForkPath)
-    → Fine entries levels from (end_outline (λ below. branch_outlines depth below) x ∷ [])
+    → IsSound entries levels from (end_outline (λ below. branch_outlines depth below) x ∷ [])
     (end_contents (λ b. branch_contents depth b) x ∷ [])
     → list_all (resolves_within levels entries from) (end_collected (λ b. branch_collected depth b) x) ≡ true
 end-resolves depth zero entries from at (DraftBranchEnd-F.Fork name paths) fine =
@@ -165,10 +166,10 @@ branch-resolves (suc depth) entries are levels from b fine =
     let stand = all-append (all_stand entries from) all (last ∷ [])
     (subst (λ (os : List Outline). list_all (all_stand entries from) os ≡ true) (outlines-suc depth b)
     fine.stand) in
-    let own_fine : Fine entries levels from (map instruction_outline b.instructions)
+    let own_fine : IsSound entries levels from (map instruction_outline b.instructions)
     (map instruction_contents b.instructions) =
     record { within = within_parts.0; stand = stand.0; numbers = numbers.0 } in
-    let end_fine : Fine entries levels from (end_outline (λ below. branch_outlines depth below)
+    let end_fine : IsSound entries levels from (end_outline (λ below. branch_outlines depth below)
     (out-DraftBranchEnd b.end) ∷ []) (end_contents (λ below. branch_contents depth below)
     (out-DraftBranchEnd b.end) ∷ []) = record {
       within = within_parts.1;

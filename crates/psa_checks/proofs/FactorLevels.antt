@@ -13,12 +13,9 @@ use Rattle.psa_model.specs.declared.model.GroupModel.TheVariants.{Beta, Mgl, Alp
 use Rattle.psa_model.specs.Models.{levels_of}
 use Rattle.psa_names.specs.GroupRules.{level_in, has_level, has_levels}
 use Rattle.psa_names.specs.ModelOfDraft.{by_level}
-use Rattle.psa_checks.proofs.Places.{Has, has-none, has-first, has-later, has-cases, has-any, any-from, all-at}
-use Rattle.psa_checks.proofs.Basics.{map-flat, flat-same}
-use Rattle.psa_checks.proofs.Ordered.{weigh, weigh-same}
-
-abbrev one_if : Bool → ℕ
-one_if b = cond b 1 0
+use Rattle.psa_checks.proofs.ListPlaces.{Has, has-none, has-first, has-later, has-cases, has-any, any-from, all-at}
+use Rattle.psa_checks.proofs.BasicEvents.{map-flat, flat-same}
+use Rattle.psa_checks.proofs.Sums.{weigh, weigh-same, weigh-sum, one_if}
 
 count-weigh : {A : Type 0} (p : A → Bool) (xs : List A) → count_by p xs ≡ weigh (λ x. one_if (p x)) xs
 count-weigh p [] = refl
@@ -30,15 +27,11 @@ weigh-none : {A : Type 0} (xs : List A) → weigh (λ x. 0) xs ≡ 0
 weigh-none [] = refl
 weigh-none (x ∷ xs) = let rest = weigh-none xs in omega (arith, rest)
 
-weigh-both : {A : Type 0} (f g : A → ℕ) (xs : List A) → weigh (λ x. f x + g x) xs ≡ weigh f xs + weigh g xs
-weigh-both f g [] = refl
-weigh-both f g (x ∷ xs) = let rest = weigh-both f g xs in omega (arith, rest)
-
 exchange : {A B : Type 0} (h : A → B → ℕ) (xs : List A) (ys : List B)
     → weigh (λ x. weigh (λ y. h x y) ys) xs ≡ weigh (λ y. weigh (λ x. h x y) xs) ys
 exchange h [] ys = sym (weigh-none ys)
 exchange h (x ∷ xs) ys = ap (λ n. weigh (λ y. h x y) ys + n) (exchange h xs ys)
-    ∙ sym (weigh-both (λ y. h x y) (λ y. weigh (λ z. h z y) xs) ys)
+    ∙ sym (weigh-sum (λ y. h x y) (λ y. weigh (λ z. h z y) xs) ys)
 
 weigh-most : {A : Type 0} (f : A → ℕ) → ((x : A) → f x ≤ 1) → (xs : List A) → weigh f xs ≤ length xs
 weigh-most f most [] = omega arith

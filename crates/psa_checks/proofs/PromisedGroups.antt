@@ -32,23 +32,25 @@ use Rattle.psa_names.specs.GroupRules.{has_levels}
 use Rattle.psa_names.specs.Resolved.{resolved_formula, resolved_expression}
 use Rattle.psa_names.specs.Collected.{collected_in, branch_collected, by_contents}
 use Rattle.psa_names.specs.ModelOfDraft.{model_from, member_ids, factor_of, group_of}
-use Rattle.psa_checks.proofs.Places.{Has, has-none, has-cases, from-map, from-flat, from-kept, all-at, All-from, all-append}
+use Rattle.psa_checks.proofs.ListPlaces.{Has, has-none, has-cases, from-map, from-flat, from-kept, all-at, All-from, all-append}
 use Rattle.psa_checks.proofs.KindForms.{basic-body, group-body, body-steps, body-walk}
-use Rattle.psa_checks.proofs.Standing.{AreEntries}
-use Rattle.psa_checks.proofs.Fine.{all_stand, entry-fine}
-use Rattle.psa_checks.proofs.Expressions.{expression_by, parameters-within, Shallow, value-within}
-use Rattle.psa_checks.proofs.Walks.{tree-fine}
-use Rattle.psa_checks.proofs.Ordered.{from-by}
-use Rattle.psa_checks.proofs.Nested.{expression-nested}
-use Rattle.psa_checks.proofs.NestedWalks.{branch-collected-nested}
+use Rattle.psa_checks.proofs.Definitions.{AreEntries}
+use Rattle.psa_checks.proofs.SoundElements.{all_stand, entry-sound}
+use Rattle.psa_checks.proofs.ExpressionLevels.{expression_by, parameters-within, Shallow, value-within}
+use Rattle.psa_checks.proofs.WalkLevels.{tree-sound}
+use Rattle.psa_checks.proofs.CollectedOrder.{from-by}
+use Rattle.psa_checks.proofs.BodyNesting.{expression-nested}
+use Rattle.psa_checks.proofs.CollectedNesting.{branch-collected-nested}
 use Rattle.psa_checks.proofs.CollectedLevels.{resolves_within, branch-resolves}
 use Rattle.psa_checks.proofs.FactorLevels.{model-levels}
-use Rattle.psa_checks.proofs.Basics.{all_pairs, pair-cases, pair-events}
-use Rattle.psa_checks.proofs.Groups.{group-allowed, member_list, member-ids, member-is, somes-length, all_members, all-distinct, member-among, ids-different}
-use Rattle.psa_checks.proofs.Orders.{group_by, group-says, model-members}
+use Rattle.psa_checks.proofs.BasicEvents.{all_pairs, pair-cases, pair-events}
+use Rattle.psa_checks.proofs.AllowedGroups.{group-allowed}
+use Rattle.psa_checks.proofs.GroupMembers.{member_list, member-ids, member-is, present-length}
+use Rattle.psa_checks.proofs.MembersDiffer.{all_members, all-distinct, member-among, ids-different}
+use Rattle.psa_checks.proofs.ModelMembers.{group_by, group-says, model-members}
 use Rattle.psa_model.proofs.Levels.{within-more}
 use Rattle.psa_names.specs.GroupRules.{body_has_levels, meanings_of_members}
-use Rattle.psa_checks.proofs.PromisedParts.{its-body, its-levels, its-nesting, its-numbers, parts-shallow, parts-numbers, body-stands, IsCollected, steps-collect, walk-collect}
+use Rattle.psa_checks.proofs.PromisedDefinitions.{its-body, its-levels, its-nesting, its-numbers, parts-shallow, parts-numbers, body-stands, IsCollected, steps-collect, walk-collect}
 
 -- ---- collected formulas
 
@@ -56,9 +58,9 @@ tree-collect : (entries : Entries) (place : ℕ) (one : Entry) (b : DraftBranch)
     → slice_get entries place ≡ Some one → one.kind ≡ kind.EventTree → one.body ≡ body.Walk b → (f : DraftFormula)
     → Has (branch_collected MAX_NESTING b) f → IsCollected entries one f
 tree-collect entries place one b are there is body_is f here =
-    let whole = entry-fine entries MAX_DEPTH place one kind.EventTree (body.Walk b) (are place one there) is body_is
+    let whole = entry-sound entries MAX_DEPTH place one kind.EventTree (body.Walk b) (are place one there) is body_is
     (its-levels entries place one kind.EventTree are there is refl) in
-    let fine = tree-fine entries 499 one b whole in
+    let fine = tree-sound entries 499 one b whole in
     let fewer = all-at (resolves_within 499 entries one) (branch_collected MAX_NESTING b) f
     (branch-resolves MAX_NESTING entries are 499 one b fine) here in (
       within-more 499 (model_from entries) (resolved_formula entries one f) fewer,
@@ -82,7 +84,7 @@ body-collect entries place one (body.Walk b) are there is f here =
     (are place one there).body)) [
       | inl tree ↦ tree-collect entries place one b are there tree is f here
       | inr named ↦ walk-collect entries place one b are there is
-          (entry-fine entries MAX_DEPTH place one kind.Branch (body.Walk b) (are place one there) named is
+          (entry-sound entries MAX_DEPTH place one kind.Branch (body.Walk b) (are place one there) named is
           (its-levels entries place one kind.Branch are there named refl)) f here
     ]
 body-collect entries place one body.Nothing are there is f here = absurd (has-none f here)
@@ -215,7 +217,7 @@ group-is entries place one group are there is body_is =
     let most = allowed.most in
     let meanings : length (meanings_of_members entries one) ≡ length group.members = length-map _ _
     ∙ ap (λ (b : DraftBody). length (members_of b)) body_is in
-    let somes_count = somes-length entries (meanings_of_members entries one) allowed.can_be in
+    let somes_count = present-length entries (meanings_of_members entries one) allowed.can_be in
     let ids : length (member_ids entries one) ≡ length (member_list entries one) = ap length (member-ids entries one)
     ∙ length-map (member_list entries one) (basic_id entries) in
     let count : length (group_by entries one (body.Group group)).members ≡ length group.members =

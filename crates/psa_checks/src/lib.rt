@@ -1,4 +1,4 @@
-//! The model of a draft without a fault of names, or the first fault of names.
+//! The promise of the model of a draft without a fault of names.
 #![tactic(auto)]
 
 mod laws;

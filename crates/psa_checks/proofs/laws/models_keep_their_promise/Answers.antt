@@ -1,5 +1,5 @@
-use Rattle.psa_checks.proofs.Promise.{promised}
-use Rattle.psa_checks.proofs.Sizes.{of-size}
+use Rattle.psa_checks.proofs.ModelPromise.{promised}
+use Rattle.psa_checks.proofs.ModelSize.{of-size}
 use Rattle.psa_checks.proofs.laws.models_keep_their_promise.Goals as goal
 
 pub returns-clause-model : goal.returns-clause-model

@@ -11,13 +11,15 @@ use Rattle.psa_model.specs.Drafts.{Contents, together, body_contents, is_event_t
 use Rattle.psa_model.specs.Drafts.{element as element_contents}
 use Rattle.psa_names.specs.Outlines.{Reference, Outline, element, joined, plain, Entry, Entries, body_outlines}
 use Rattle.psa_names.specs.Chains.{own_reference, references_in, references_in_all, path_members, followed, all_pass, passes_on, is_within}
-use Rattle.psa_checks.proofs.Places.{all-append}
-use Rattle.psa_checks.proofs.Standing.{stands, IsEntry}
+use Rattle.psa_checks.proofs.ListPlaces.{all-append}
+use Rattle.psa_checks.proofs.Definitions.{stands, IsEntry}
 
+-- each reference in an element stands
 abbrev pub all_stand : Entries → Entry → Outline → Bool
 all_stand entries from one = list_all (stands entries from) (references_in one)
 
-pub record Fine (entries : Entries) (levels : ℕ) (from : Entry) (outlines : List Outline)
+-- these elements of a definition are within so many levels, their references stand, and each has its numbers of arguments
+pub record IsSound (entries : Entries) (levels : ℕ) (from : Entry) (outlines : List Outline)
     (contents : List Contents) : Type 0 where
   pub within : list_all (is_within levels entries from) outlines ≡ true
   pub stand : list_all (all_stand entries from) outlines ≡ true
@@ -30,12 +32,13 @@ pub record Inside (entries : Entries) (levels : ℕ) (from : Entry) (reference :
   pub on : passes_on (λ to. list_all (λ one. is_within levels entries to one) to.outlines) entries
       (option_and_then (followed entries from) reference) ≡ true
   pub right_number : right ≡ true
-  pub fine : Fine entries levels from inside contents
+  pub fine : IsSound entries levels from inside contents
 
 pass-joined : (test : Outline → Bool) (all : List Outline) → all_pass test (joined all) ≡ list_all test all
 pass-joined test [] = refl
 pass-joined test (one ∷ others) = ap (λ b. test one && b) (pass-joined test others)
 
+-- references that stand inside elements, by element
 pub stand-joined : (test : Reference → Bool) (all : List Outline)
     → list_all test (references_in_all (joined all)) ≡ true
     → list_all (λ one. list_all test (references_in one)) all ≡ true
@@ -44,19 +47,21 @@ stand-joined test (one ∷ others) h =
     let parts = all-append test (references_in one) (references_in_all (joined others)) h in
     and_from (list_all test (references_in one)) _ parts.0 (stand-joined test others parts.1)
 
+-- elements together have their numbers where each has
 pub together-numbers : (all : List Contents) → (together all).has_numbers ≡ list_all (λ one. one.has_numbers) all
 together-numbers [] = refl
 together-numbers (one ∷ others) = ap (λ b. one.has_numbers && b) (together-numbers others)
 
 -- no element is within no levels
 pub some-level : (entries : Entries) (from : Entry) (one : Outline) (others : List Outline) (contents : List Contents)
-    → Fine entries zero from (one ∷ others) contents → ⊥
+    → IsSound entries zero from (one ∷ others) contents → ⊥
 unfolding is_within
 some-level entries from one others contents fine = false≢true fine.within
 
+-- what is known of an element, and of what stands inside it
 pub inside : (entries : Entries) (levels : ℕ) (from : Entry) (reference : Option Reference) (inner : List Outline)
     (right : Bool) (name : Option DraftReference) (contents : List Contents)
-    → Fine entries (suc levels) from (element reference (joined inner) ∷ [])
+    → IsSound entries (suc levels) from (element reference (joined inner) ∷ [])
     (element_contents right name contents ∷ []) → Inside entries levels from reference inner right contents
 unfolding is_within
 inside entries levels from reference inner right name contents fine =
@@ -79,11 +84,12 @@ inside entries levels from reference inner right name contents fine =
       };
     }
 
-pub fine-parts : (entries : Entries) (levels : ℕ) (from : Entry) (outlines more_outlines : List Outline)
-    (contents more_contents : List Contents) → Fine entries levels from (outlines ++ more_outlines)
-    (contents ++ more_contents) → Fine entries levels from outlines contents
-    × Fine entries levels from more_outlines more_contents
-fine-parts entries levels from outlines more_outlines contents more_contents fine =
+-- of joined lists of elements, each
+pub sound-parts : (entries : Entries) (levels : ℕ) (from : Entry) (outlines more_outlines : List Outline)
+    (contents more_contents : List Contents) → IsSound entries levels from (outlines ++ more_outlines)
+    (contents ++ more_contents) → IsSound entries levels from outlines contents
+    × IsSound entries levels from more_outlines more_contents
+sound-parts entries levels from outlines more_outlines contents more_contents fine =
     let within = all-append (is_within levels entries from) outlines more_outlines fine.within in
     let stand = all-append (all_stand entries from) outlines more_outlines fine.stand in
     let numbers = all-append (λ (one : Contents). one.has_numbers) contents more_contents fine.numbers in (
@@ -92,16 +98,16 @@ fine-parts entries levels from outlines more_outlines contents more_contents fin
     )
 
 -- each of some elements is fine
-pub fine-each : {A : Type 0} (entries : Entries) (levels : ℕ) (from : Entry) (outline : A → Outline)
+pub sound-each : {A : Type 0} (entries : Entries) (levels : ℕ) (from : Entry) (outline : A → Outline)
     (contents : A → Contents) (test : A → Bool)
-    → ((x : A) → Fine entries levels from (outline x ∷ []) (contents x ∷ []) → test x ≡ true) → (all : List A)
-    → Fine entries levels from (map outline all) (map contents all) → list_all test all ≡ true
-fine-each entries levels from outline contents test each [] fine = refl
-fine-each entries levels from outline contents test each (x ∷ all) fine =
-    let parts = fine-parts entries levels from (outline x ∷ []) (map outline all) (contents x ∷ []) (map contents all)
+    → ((x : A) → IsSound entries levels from (outline x ∷ []) (contents x ∷ []) → test x ≡ true) → (all : List A)
+    → IsSound entries levels from (map outline all) (map contents all) → list_all test all ≡ true
+sound-each entries levels from outline contents test each [] fine = refl
+sound-each entries levels from outline contents test each (x ∷ all) fine =
+    let parts = sound-parts entries levels from (outline x ∷ []) (map outline all) (contents x ∷ []) (map contents all)
     fine in
     and_from (test x) (list_all test all) (each x parts.0)
-    (fine-each entries levels from outline contents test each all parts.1)
+    (sound-each entries levels from outline contents test each all parts.1)
 
 -- ---- bodies
 
@@ -126,11 +132,11 @@ entry-stand entries place one is =
     (stand-flat (stands entries one) one.outlines references)
 
 -- a definition with a body within some levels
-pub entry-fine : (entries : Entries) (levels place : ℕ) (one : Entry) (its : DefinitionKind) (its_body : DraftBody)
+pub entry-sound : (entries : Entries) (levels place : ℕ) (one : Entry) (its : DefinitionKind) (its_body : DraftBody)
     → IsEntry entries place one → one.kind ≡ its → one.body ≡ its_body
     → list_all (is_within levels entries one) one.outlines ≡ true
-    → Fine entries levels one (outlines_by its its_body) (body_contents its_body ∷ [])
-entry-fine entries levels place one its its_body is kind_is body_is within =
+    → IsSound entries levels one (outlines_by its its_body) (body_contents its_body ∷ [])
+entry-sound entries levels place one its its_body is kind_is body_is within =
     let same : outlines_by one.kind one.body ≡ outlines_by its its_body = ap₂ outlines_by kind_is body_is in
     record {
       within = subst (λ all. list_all (is_within levels entries one) all ≡ true) (is.laid ∙ same) within;

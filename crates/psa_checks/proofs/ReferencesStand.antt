@@ -1,9 +1,9 @@
--- What is known of each definition of a draft without a fault of names, and what a reference leads to.
-use Rattle.std.proofs.Common.{◌≡◌, ◌⊎◌, inl, inr, ◌≤◌, ◌+◌, ◌==◌, ℕ, Bool, true, false, not, List, [], ◌∷◌, Option, Some, None, map, refl, ap, ◌∙◌, subst, arith}
+-- What a reference of a draft without a fault of names stands for, and where it leads.
+use Rattle.std.proofs.Common.{◌≡◌, ◌⊎◌, inl, inr, ◌==◌, ℕ, Bool, true, false, not, List, [], ◌∷◌, Option, Some, None, map, refl, ap, ◌∙◌, subst}
 use Rattle.std.proofs.lemmas.Bool.{false≢true, cases_Bool, and_parts}
-use Rattle.std.proofs.lemmas.Option.{none-some, slice_get-map}
-use Rattle.std.specs.Prelude.{is_none, take, unwrap_or, option_map, ◌&&◌, if◌then◌else◌}
-use Rattle.std.specs.List.{slice_get, list_all, position}
+use Rattle.std.proofs.lemmas.Option.{none-some}
+use Rattle.std.specs.Prelude.{is_none, option_map, ◌&&◌, if◌then◌else◌}
+use Rattle.std.specs.List.{slice_get, position}
 use Rattle.std.specs.Option.{option_and_then, option_map_or, option_or}
 use Rattle.psa_model.specs.PathNames.{Text, is_path}
 use Rattle.psa_model.specs.declared.draft.DefinitionKind.{DefinitionKind}
@@ -11,58 +11,17 @@ use Rattle.psa_model.specs.declared.draft.DraftReference.{DraftReference}
 use Rattle.psa_model.specs.declared.draft.EventKind.TheVariants as asked
 use Rattle.psa_model.specs.declared.draft.DefinitionKind.TheVariants as kind
 use Rattle.psa_model.specs.declared.fault.FaultKind.TheVariants as fault
-use Rattle.psa_model.specs.declared.limits.TheConstants.{MAX_NESTING}
-use Rattle.psa_model.specs.declared.model.TheConstants.{MAX_DEPTH}
-use Rattle.psa_model.specs.Drafts.{has_body, body_contents, same_texts}
-use Rattle.psa_names.specs.Outlines.{ReferenceKind, Reference, Entry, Entries, outlines_of, event, parameter, event_tree, rule, sequence, branch, functional_event, initiating_event}
-use Rattle.psa_names.specs.NameSpaces.{Family, is_in_family, events, parameters, groups, event_trees, rules, sequences, branches, functional_events, initiating_events}
+use Rattle.psa_model.specs.Drafts.{same_texts}
+use Rattle.psa_names.specs.Outlines.{ReferenceKind, Entry, Entries, event, parameter, event_tree, rule, sequence, branch, functional_event, initiating_event}
+use Rattle.psa_names.specs.NameSpaces.{Family, is_in_family, events, parameters, event_trees, rules, sequences, branches, functional_events, initiating_events}
 use Rattle.psa_names.specs.Meanings.{Meaning, definition, of_group, meaning_of, meaning_of_event, definition_named, by_scope, one_directly_in, first_some, outwards, public_one, in_whole_model, is_defined_by_group, scope_of, has_name}
-use Rattle.psa_names.specs.GroupRules.{is_allowed_group}
-use Rattle.psa_names.specs.Chains.{is_chained, is_within_all, references_of, followed, chained_place, passes_on}
+use Rattle.psa_names.specs.Chains.{is_chained, followed, chained_place, passes_on}
 use Rattle.psa_names.specs.NameFaults.{reference_fault, has_kind}
-use Rattle.psa_names.specs.Ids.{kind_number, is_kind, all_of_kind, id_of, id_of_meaning, referred_id}
-use Rattle.psa_checks.proofs.Places.{Has, has-later, from-map, from-kept}
-use Rattle.psa_checks.proofs.Numbered.{position-at, position-first, kept-place, from-enumerated}
+use Rattle.psa_names.specs.Ids.{kind_number, is_kind, all_of_kind, id_of_meaning, referred_id}
+use Rattle.psa_checks.proofs.ListPlaces.{Has, has-later, from-map}
+use Rattle.psa_checks.proofs.FirstPlaces.{position-at}
 use Rattle.psa_checks.proofs.KindForms.{is-parameter, is-event-tree, is-initiating, is-functional, is-sequence, is-branch, is-rule, is-house}
-
--- ---- what is known of a definition
-
--- a reference stands for something of its kind
-abbrev pub stands : Entries → Entry → Reference → Bool
-stands entries from reference = is_none (reference_fault entries reference.kind (meaning_of entries from reference))
-
-pub record IsEntry (entries : Entries) (place : ℕ) (one : Entry) : Type 0 where
-  pub laid : one.outlines ≡ outlines_of one.definition
-  pub body : has_body one.kind one.body ≡ true
-  pub numbers : (body_contents one.body).has_numbers ≡ true
-  pub shallow : (body_contents one.body).nesting ≤ MAX_NESTING
-  pub stand : list_all (stands entries one) (references_of one) ≡ true
-  pub within : is_chained one.kind ≡ true → is_within_all MAX_DEPTH entries one ≡ true
-  pub allowed : is_in_family groups one ≡ true → is_allowed_group entries (take place entries) one ≡ true
-
-abbrev pub AreEntries : Entries → Type 0
-AreEntries entries = (place : ℕ) (one : Entry) → slice_get entries place ≡ Some one → IsEntry entries place one
-
--- ---- ids
-
--- the element of a definition in a list that is made of those of its kind
-pub made-at : {A : Type 0} (its : DefinitionKind) (entries : Entries) (make : ℕ × Entry → A) (place : ℕ) (one : Entry)
-    → slice_get entries place ≡ Some one → is_kind its one ≡ true
-    → slice_get (map make (all_of_kind its entries)) (id_of its entries place) ≡ Some (make (place, one))
-made-at its entries make place one there passes =
-    let zero_more : place ≡ 0 + place = omega arith in
-    let r = kept-place (is_kind its) 0 entries place place one zero_more there passes in
-    let found : id_of its entries place ≡ r.0 =
-    ap (λ o. unwrap_or o 0) (position-first (λ (o : ℕ × Entry). o.0 == place) (all_of_kind its entries) ∙ r.1) in
-    slice_get-map make (all_of_kind its entries) (id_of its entries place)
-    ∙ ap (option_map make) (ap (slice_get (all_of_kind its entries)) found ∙ r.2)
-
--- the definition of an element of such a list
-pub from-made : (its : DefinitionKind) (entries : Entries) (one : ℕ × Entry) → Has (all_of_kind its entries) one
-    → (slice_get entries one.0 ≡ Some one.1) × (is_kind its one.1 ≡ true)
-from-made its entries one here =
-    let kept = from-kept (λ (o : ℕ × Entry). is_kind its o.1)
-    _ one here in (from-enumerated entries one kept.0, kept.1)
+use Rattle.psa_checks.proofs.Definitions.{stands, made-at}
 
 -- ---- the search
 
@@ -155,6 +114,7 @@ found : (entries : Entries) (family : Family) (sought : ReferenceKind) (o : Opti
 found entries family sought None at h = absurd (false≢true h)
 found entries family sought (Some place) at h = let r = at place refl in (place, r.0, refl, r.1, r.2)
 
+-- a reference to a parameter that stands
 pub parameter-meant : (entries : Entries) (from : Entry) (name : DraftReference)
     → stands entries from (record { kind = parameter; written = name }) ≡ true
     → Meant entries from kind.Parameter parameter name
@@ -168,6 +128,7 @@ parameter-meant entries from name h =
       is = is-parameter r.1.kind r.4;
     }
 
+-- a reference to an event tree that stands
 pub tree-meant : (entries : Entries) (from : Entry) (name : DraftReference)
     → stands entries from (record { kind = event_tree; written = name }) ≡ true
     → Meant entries from kind.EventTree event_tree name
@@ -181,6 +142,7 @@ tree-meant entries from name h =
       is = is-event-tree r.1.kind r.4;
     }
 
+-- a reference to a rule that stands
 pub rule-meant : (entries : Entries) (from : Entry) (name : DraftReference)
     → stands entries from (record { kind = rule; written = name }) ≡ true → Meant entries from kind.Rule rule name
 rule-meant entries from name h =
@@ -193,6 +155,7 @@ rule-meant entries from name h =
       is = is-rule r.1.kind r.4;
     }
 
+-- a reference to an initiating event that stands
 pub initiating-meant : (entries : Entries) (from : Entry) (name : DraftReference)
     → stands entries from (record { kind = initiating_event; written = name }) ≡ true
     → Meant entries from kind.InitiatingEvent initiating_event name
@@ -206,6 +169,7 @@ initiating-meant entries from name h =
       is = is-initiating r.1.kind r.4;
     }
 
+-- a reference to a sequence that stands
 pub sequence-meant : (entries : Entries) (from : Entry) (name : DraftReference)
     → stands entries from (record { kind = sequence; written = name }) ≡ true
     → Meant entries from kind.Sequence sequence name
@@ -219,6 +183,7 @@ sequence-meant entries from name h =
       is = is-sequence r.1.kind r.4;
     }
 
+-- a reference to a branch that stands
 pub branch-meant : (entries : Entries) (from : Entry) (name : DraftReference)
     → stands entries from (record { kind = branch; written = name }) ≡ true
     → Meant entries from kind.Branch branch name
@@ -232,6 +197,7 @@ branch-meant entries from name h =
       is = is-branch r.1.kind r.4;
     }
 
+-- a reference to a functional event that stands
 pub functional-meant : (entries : Entries) (from : Entry) (name : DraftReference)
     → stands entries from (record { kind = functional_event; written = name }) ≡ true
     → Meant entries from kind.FunctionalEvent functional_event name
@@ -268,6 +234,7 @@ event-parts entries container name None m at h =
       | inr neither ↦ absurd (none-some m (rw neither at h))
     ]
 
+-- what an event stands for is a definition of one, or is defined by a group
 pub event-at : (entries : Entries) (container : List Text) (name : Text) (m : Meaning)
     → meaning_of_event entries container name ≡ Some m → IsEvent entries m
 event-at entries container name m h =
@@ -293,6 +260,7 @@ house-parts entries (Some (definition place)) h = by_entry (slice_get entries pl
       | inr wrong ↦ absurd (false≢true (rw wrong at k))
     ]
 
+-- a reference to a house event that stands
 pub house-meant : (entries : Entries) (from : Entry) (name : DraftReference)
     → stands entries from (record { kind = event asked.House; written = name }) ≡ true
     → Meant entries from kind.HouseEvent (event asked.House) name
@@ -314,11 +282,11 @@ referred-at entries from its sought name make m same =
     ∙ made-at its entries make m.place m.one m.there right
 
 -- what passes on from a reference passes at the definition that is meant
-pub led-on : (entries : Entries) (from : Entry) (its : DefinitionKind) (sought : ReferenceKind)
+pub leads-on : (entries : Entries) (from : Entry) (its : DefinitionKind) (sought : ReferenceKind)
     (name : DraftReference) (test : Entry → Bool) (m : Meant entries from its sought name) → is_chained its ≡ true
     → passes_on test entries (followed entries from (record { kind = sought; written = name })) ≡ true
     → test m.one ≡ true
-led-on entries from its sought name test m chained h =
+leads-on entries from its sought name test m chained h =
     let one_chained : is_chained m.one.kind ≡ true = ap is_chained m.is ∙ chained in
     let placed : chained_place entries (definition m.place) ≡ Some m.place = rw m.there (rw one_chained refl) in
     let on : followed entries from (record { kind = sought; written = name }) ≡ Some m.place =

@@ -27,53 +27,55 @@ use Rattle.psa_names.specs.Resolved.{resolved_formula, resolved_test}
 use Rattle.psa_names.specs.Ids.{referred_id}
 use Rattle.psa_names.specs.Collected.{Collecting, collected_by, collected_layer, collected_in, collected_before, total_size, all_behind, resolved_instruction, resolved_instruction_layer}
 use Rattle.psa_names.specs.ModelOfDraft.{model_from, instructions_in, steps_in}
-use Rattle.psa_checks.proofs.Places.{all-append, all-joined}
+use Rattle.psa_checks.proofs.ListPlaces.{all-append, all-joined}
 use Rattle.psa_checks.proofs.KindForms.{rule-body}
-use Rattle.psa_checks.proofs.Standing.{AreEntries, rule-meant, house-meant, referred-at, led-on}
-use Rattle.psa_checks.proofs.Fine.{Fine, all_stand, some-level, inside, fine-parts, entry-fine, together-numbers}
-use Rattle.psa_checks.proofs.Formulas.{formula-within, house_of}
-use Rattle.psa_checks.proofs.Tests.{test-within}
-use Rattle.psa_checks.proofs.Sitting.{Sits, AllSit, sits-left, sits-right, flat-own, collected-of, resolved-of, layer-fine, block-parts, if-parts, total, instruction-size}
+use Rattle.psa_checks.proofs.Definitions.{AreEntries}
+use Rattle.psa_checks.proofs.ReferencesStand.{rule-meant, house-meant, referred-at, leads-on}
+use Rattle.psa_checks.proofs.SoundElements.{IsSound, all_stand, some-level, inside, sound-parts, entry-sound, together-numbers}
+use Rattle.psa_checks.proofs.FormulaLevels.{formula-within, house_of}
+use Rattle.psa_checks.proofs.TestLevels.{test-within}
+use Rattle.psa_checks.proofs.CollectedPlaces.{StandFrom, CollectedStand, stand-left, stand-right, flat-own, collected-of, resolved-of, layer-sound, block-parts, if-parts, total, instruction-size}
 
 -- each instruction of these levels, behind so many collected formulas that stand in the model, is within as many there
 abbrev pub InstructionsAt : Entries → ℕ → Type 0
 InstructionsAt entries levels = (from : Entry) (number : ℕ) (i : DraftInstruction)
-    → Fine entries levels from (instruction_outline i ∷ []) (instruction_contents i ∷ [])
-    → Sits entries from number (collected_by i)
+    → IsSound entries levels from (instruction_outline i ∷ []) (instruction_contents i ∷ [])
+    → StandFrom entries from number (collected_by i)
     → instruction_within levels (model_from entries) ((resolved_instruction entries from i).behind number) ≡ true
 
 -- instructions one after another
 pub each-within : (levels : ℕ) (entries : Entries) (from : Entry) → InstructionsAt entries levels
     → (number : ℕ) (all : List DraftInstruction)
-    → Fine entries levels from (map instruction_outline all) (map instruction_contents all)
-    → Sits entries from number (flat_map (λ fs. fs) (map collected_by all))
+    → IsSound entries levels from (map instruction_outline all) (map instruction_contents all)
+    → StandFrom entries from number (flat_map (λ fs. fs) (map collected_by all))
     → list_all (λ i. instruction_within levels (model_from entries) i)
     (all_behind number (map (resolved_instruction entries from) all)) ≡ true
 each-within levels entries from at number [] fine sits = refl
 each-within levels entries from at number (i ∷ all) fine sits =
-    let parts = fine-parts entries levels from (instruction_outline i ∷ []) (map instruction_outline all)
+    let parts = sound-parts entries levels from (instruction_outline i ∷ []) (map instruction_outline all)
     (instruction_contents i ∷ []) (map instruction_contents all) fine in
     let rest = flat_map (λ fs. fs) (map collected_by all) in
     let later = each-within levels entries from at (number + length (collected_by i)) all parts.1
-    (sits-right entries from number (collected_by i) rest sits) in
+    (stand-right entries from number (collected_by i) rest sits) in
     let size = instruction-size levels entries from i parts.0 in
     and_from _ _
-    (at from number i parts.0 (sits-left entries from number (collected_by i) rest sits))
+    (at from number i parts.0 (stand-left entries from number (collected_by i) rest sits))
     (subst (λ (n : ℕ). list_all (λ i. instruction_within levels (model_from entries) i)
     (all_behind (number + n) (map (resolved_instruction entries from) all)) ≡ true) (sym size) later)
 
+-- there are as many behind collected formulas
 pub length-behind : {A : Type 0} (number : ℕ) (all : List (Collecting A))
     → length (all_behind number all) ≡ length all
 length-behind number [] = refl
 length-behind number (one ∷ others) = ap suc (length-behind (number + one.size) others)
 
 -- the instructions of a definition
-pub steps-fine : (entries : Entries) (levels : ℕ) (from : Entry) (all : List DraftInstruction)
-    (link : Option DraftReference) → Fine entries levels from (map instruction_outline all ++ link_outlines link)
+pub steps-sound : (entries : Entries) (levels : ℕ) (from : Entry) (all : List DraftInstruction)
+    (link : Option DraftReference) → IsSound entries levels from (map instruction_outline all ++ link_outlines link)
     (together (map instruction_contents all ++ some_reference link ∷ []) ∷ [])
-    → Fine entries levels from (map instruction_outline all) (map instruction_contents all) × Fine entries levels from
+    → IsSound entries levels from (map instruction_outline all) (map instruction_contents all) × IsSound entries levels from
     (link_outlines link) []
-steps-fine entries levels from all link fine =
+steps-sound entries levels from all link fine =
     let within = all-append (is_within levels entries from) (map instruction_outline all) (link_outlines link)
     fine.within in
     let stand = all-append (all_stand entries from) (map instruction_outline all) (link_outlines link) fine.stand in
@@ -85,15 +87,16 @@ steps-fine entries levels from all link fine =
       record { within = within.1; stand = stand.1; numbers = refl },
     )
 
+-- the instructions of a definition are within the levels
 pub steps-within : (levels place : ℕ) (entries : Entries) (one : Entry) (all : List DraftInstruction)
-    (link : Option DraftReference) → AllSit entries → InstructionsAt entries levels
+    (link : Option DraftReference) → CollectedStand entries → InstructionsAt entries levels
     → slice_get entries place ≡ Some one → one.body ≡ body.Steps all link
-    → Fine entries levels one (map instruction_outline all) (map instruction_contents all)
+    → IsSound entries levels one (map instruction_outline all) (map instruction_contents all)
     → list_all (λ i. instruction_within levels (model_from entries) i) (instructions_in entries one) ≡ true
 steps-within levels place entries one all link sit at there is fine =
-    let sits = subst (λ (b : DraftBody). Sits entries one (collected_before entries one) (collected_in b)) is
+    let sits = subst (λ (b : DraftBody). StandFrom entries one (collected_before entries one) (collected_in b)) is
     (sit place one there) in
-    let own = subst (λ (fs : List DraftFormula). Sits entries one (collected_before entries one) fs)
+    let own = subst (λ (fs : List DraftFormula). StandFrom entries one (collected_before entries one) fs)
     (sym (flat-own collected_by all)) sits in
     ap (λ (b : DraftBody). list_all (λ i. instruction_within levels (model_from entries) i)
     (all_behind (collected_before entries one) (map (resolved_instruction entries one) (steps_in b)))) is
@@ -101,15 +104,16 @@ steps-within levels place entries one all link sit at there is fine =
 
 -- ---- one layer
 
+-- the rule that a definition is in the model
 abbrev pub rule_of : Entries → Entry → RuleDefinition
 rule_of entries one = record { name = one.name; place = one.place; instructions = instructions_in entries one }
 
-layer-within : (levels : ℕ) (entries : Entries) (from : Entry) (number : ℕ) → AreEntries entries → AllSit entries
+layer-within : (levels : ℕ) (entries : Entries) (from : Entry) (number : ℕ) → AreEntries entries → CollectedStand entries
     → InstructionsAt entries levels → (x : DraftInstruction-F DraftInstruction)
-    → Fine entries (suc levels) from (outline_layer
+    → IsSound entries (suc levels) from (outline_layer
     (map-DraftInstruction DraftInstruction Outline instruction_outline x) ∷ [])
     (instruction_step (map-DraftInstruction DraftInstruction Contents instruction_contents x) ∷ [])
-    → Sits entries from number (collected_layer
+    → StandFrom entries from number (collected_layer
     (map-DraftInstruction DraftInstruction (List DraftFormula) collected_by x))
     → instruction_within (suc levels) (model_from entries)
     ((resolved_instruction_layer entries from
@@ -117,7 +121,7 @@ layer-within : (levels : ℕ) (entries : Entries) (from : Entry) (number : ℕ) 
     number) ≡ true
 unfolding instruction_within
 layer-within levels entries from number are sit below (DraftInstruction-F.Collect f) fine sits =
-    let whole : Fine entries (suc levels) from (plain (formula_outline f ∷ []) ∷ [])
+    let whole : IsSound entries (suc levels) from (plain (formula_outline f ∷ []) ∷ [])
     (element_contents true None (formula_contents f ∷ []) ∷ []) =
     record { within = fine.within; stand = fine.stand; numbers = fine.numbers } in
     let inner = inside entries levels from None (formula_outline f ∷ []) true None (formula_contents f ∷ []) whole in
@@ -141,13 +145,13 @@ layer-within levels entries from number are sit below (DraftInstruction-F.Rule n
     let m = rule-meant entries from name (and_parts _ true inner.own).0 in
     let id = referred_id kind.Rule rule entries from name in
     let at = referred-at entries from kind.Rule rule name (λ one. rule_of entries one.1) m refl in
-    let on = led-on entries from kind.Rule rule name
+    let on = leads-on entries from kind.Rule rule name
     (λ to. list_all (λ one. is_within levels entries to one) to.outlines) m refl inner.on in
     let entry = are m.place m.one m.there in
     let b = rule-body m.one.body (subst (λ k. has_body k m.one.body ≡ true) m.is entry.body) in
-    let own = entry-fine entries levels m.place m.one kind.Rule (body.Steps b.0 None) entry m.is b.1 on in
+    let own = entry-sound entries levels m.place m.one kind.Rule (body.Steps b.0 None) entry m.is b.1 on in
     rw (out-rule (record { 0 = id }), at) (steps-within levels m.place entries m.one b.0 None sit below m.there b.1
-    (steps-fine entries levels m.one b.0 None own).0)
+    (steps-sound entries levels m.one b.0 None own).0)
 layer-within levels entries from number are sit below (DraftInstruction-F.If test first second) fine sits =
     let parts = if-parts entries levels from test first second fine in
     let firsts = flat_map (λ fs. fs) (map collected_by first) in
@@ -157,9 +161,9 @@ layer-within levels entries from number are sit below (DraftInstruction-F.If tes
     (map (resolved_instruction entries from) second) in
     let size = total levels entries from (instruction-size levels entries) first parts.2 in
     let first_within = each-within levels entries from below number first parts.2
-    (sits-left entries from number firsts seconds sits) in
+    (stand-left entries from number firsts seconds sits) in
     let later = each-within levels entries from below (number + length firsts) second parts.3
-    (sits-right entries from number firsts seconds sits) in
+    (stand-right entries from number firsts seconds sits) in
     let second_within : list_all (λ i. instruction_within levels (model_from entries) i) other ≡ true =
     subst (λ (n : ℕ). list_all (λ i. instruction_within levels (model_from entries) i)
     (all_behind (number + n) (map (resolved_instruction entries from) second)) ≡ true) (sym size) later in
@@ -176,12 +180,12 @@ layer-within levels entries from number are sit below (DraftInstruction-F.If tes
     (all-joined _ one other first_within second_within)))
 
 -- an instruction within some levels in a definition is within as many in the model
-pub instruction-within : (levels : ℕ) (entries : Entries) → AreEntries entries → AllSit entries
+pub instruction-within : (levels : ℕ) (entries : Entries) → AreEntries entries → CollectedStand entries
     → InstructionsAt entries levels
 instruction-within zero entries are sit from number i fine sits = absurd (some-level entries from _ [] _ fine)
 instruction-within (suc levels) entries are sit from number i fine sits =
-    let own = subst (λ (fs : List DraftFormula). Sits entries from number fs) (collected-of i) sits in
+    let own = subst (λ (fs : List DraftFormula). StandFrom entries from number fs) (collected-of i) sits in
     ap (λ (c : Collecting Instruction). instruction_within (suc levels) (model_from entries) (c.behind number))
     (resolved-of entries from i)
     ∙ layer-within levels entries from number are sit (instruction-within levels entries are sit)
-    (out-DraftInstruction i) (layer-fine entries (suc levels) from i fine) own
+    (out-DraftInstruction i) (layer-sound entries (suc levels) from i fine) own

@@ -20,19 +20,19 @@ use Rattle.psa_names.specs.Outlines.{Entry, Entries, entry_of, entries_of}
 use Rattle.psa_names.specs.Ids.{all_of_kind, tree_id}
 use Rattle.psa_names.specs.ModelOfDraft.{model_from, model_of, gate_of, group_of}
 use Rattle.psa_names.specs.NameFaults.{name_fault}
-use Rattle.psa_checks.proofs.Places.{map-at, All-from}
+use Rattle.psa_checks.proofs.ListPlaces.{map-at, All-from}
 use Rattle.psa_checks.proofs.KindForms.{parameter-body, gate-kind, parameter-kind, group-kind, initiating-kind, tree-kind, functional-kind, sequence-kind, branch-kind, rule-kind}
-use Rattle.psa_checks.proofs.Standing.{AreEntries, from-made}
-use Rattle.psa_checks.proofs.Expressions.{parameter_of, parameter-says, parameters-within}
-use Rattle.psa_checks.proofs.Sitting.{AllSit}
-use Rattle.psa_checks.proofs.Instructions.{rule_of}
-use Rattle.psa_checks.proofs.Walks.{tree_of, named_of, functional_of, sequence_of, sequence-within, walk-at}
-use Rattle.psa_checks.proofs.Ordered.{all-sit}
-use Rattle.psa_checks.proofs.Nested.{expression-nested}
-use Rattle.psa_checks.proofs.Containers.{each-contained, fault-tree-stands, event-tree-stands}
-use Rattle.psa_checks.proofs.Faultless.{has-no-fault, are-entries, entries-ascend}
-use Rattle.psa_checks.proofs.Orders.{order-of}
-use Rattle.psa_checks.proofs.PromisedParts.{kind-all, gate-parts, rule-parts, tree-parts, branch-parts, sequence-nested, sequence-link, initiating-link, its-body, its-levels, its-nesting, parts-shallow}
+use Rattle.psa_checks.proofs.Definitions.{AreEntries, from-made}
+use Rattle.psa_checks.proofs.ExpressionLevels.{parameter_of, parameter-says, parameters-within}
+use Rattle.psa_checks.proofs.CollectedPlaces.{CollectedStand}
+use Rattle.psa_checks.proofs.InstructionLevels.{rule_of}
+use Rattle.psa_checks.proofs.WalkLevels.{tree_of, named_of, functional_of, sequence_of, sequence-within, walk-at}
+use Rattle.psa_checks.proofs.CollectedOrder.{collected-stand}
+use Rattle.psa_checks.proofs.BodyNesting.{expression-nested}
+use Rattle.psa_checks.proofs.ContainersStand.{each-contained, fault-tree-stands, event-tree-stands}
+use Rattle.psa_checks.proofs.NoFault.{has-no-fault, are-entries, entries-ascend}
+use Rattle.psa_checks.proofs.ValueOrder.{order-of}
+use Rattle.psa_checks.proofs.PromisedDefinitions.{kind-all, gate-parts, rule-parts, tree-parts, branch-parts, sequence-nested, sequence-link, initiating-link, its-body, its-levels, its-nesting, parts-shallow}
 use Rattle.psa_checks.proofs.PromisedGroups.{formula-parts, basics-parts, group-parts, members-differ}
 use Rattle.psa_model.specs.declared.model.EventTree.{EventTree}
 use Rattle.psa_model.specs.declared.model.FaultTree.{FaultTree}
@@ -42,7 +42,7 @@ use Rattle.psa_model.specs.declared.model.NamedBranch.{NamedBranch}
 use Rattle.psa_model.specs.declared.model.Parameter.{Parameter}
 use Rattle.psa_model.specs.declared.model.RuleDefinition.{RuleDefinition}
 use Rattle.psa_model.specs.declared.model.Sequence.{Sequence}
-use Rattle.psa_checks.proofs.Tests.{initiating_of}
+use Rattle.psa_checks.proofs.TestLevels.{initiating_of}
 
 abbrev fault_tree_of : Entry → FaultTree
 fault_tree_of one = record { name = one.name; place = one.place }
@@ -76,7 +76,7 @@ resolved draft is are =
       formulas = λ place f h. (formula-parts entries are f (place, h)).0;
     }
 
-nested : (entries : Entries) → AreEntries entries → AllSit entries → IsNested (model_from entries)
+nested : (entries : Entries) → AreEntries entries → CollectedStand entries → IsNested (model_from entries)
 nested entries are sit = record {
   gates = kind-all kind.Gate entries (gate_of entries) (λ (gate : Gate). formula_nesting gate.formula ≤ MAX_NESTING)
       (λ place one there is. (gate-parts entries place one are there (gate-kind one.kind is)).1);
@@ -129,7 +129,7 @@ pub promised : (draft : Draft) → IsDraft draft → name_fault draft ≡ None �
 promised draft is none =
     let entries = entries_of draft in
     let are = are-entries draft is (has-no-fault entries none) in
-    let sit = all-sit entries (entries-ascend draft is) in
+    let sit = collected-stand entries (entries-ascend draft is) in
     record {
       resolved = resolved draft is are;
       nested = nested entries are sit;

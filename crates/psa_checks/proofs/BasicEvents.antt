@@ -21,10 +21,10 @@ use Rattle.psa_names.specs.GroupRules.{same_meaning}
 use Rattle.psa_model.specs.Drafts.{has_body}
 use Rattle.psa_names.specs.Ids.{kind_number, is_kind, basics_at, all_basics, basic_id}
 use Rattle.psa_names.specs.ModelOfDraft.{model_name, expression_in, basics_of, model_from}
-use Rattle.psa_checks.proofs.Places.{Has, has-none, has-flat, from-flat, has-map, from-map, from-kept, map-at, any-from}
-use Rattle.psa_checks.proofs.Numbered.{position-of, position-at, from-enumerated, has-enumerated}
+use Rattle.psa_checks.proofs.ListPlaces.{Has, has-none, has-flat, from-flat, has-map, from-map, from-kept, map-at, any-from}
+use Rattle.psa_checks.proofs.FirstPlaces.{position-of, position-at, from-enumerated, has-enumerated}
 use Rattle.psa_checks.proofs.KindForms.{basic-kind, group-kind, body-group}
-use Rattle.psa_checks.proofs.Standing.{IsEntry, AreEntries}
+use Rattle.psa_checks.proofs.Definitions.{IsEntry, AreEntries}
 
 -- ---- the list with its meanings
 
@@ -38,6 +38,7 @@ map-pick f true c x ys = refl
 map-pick f false true x ys = refl
 map-pick f false false x ys = refl
 
+-- what stands in such a list
 pub pick-cases : {A : Type 0} (b c : Bool) (x : A) (ys : List A) (y : A) → Has (pick b c x ys) y
     → ((b ≡ true) × (x ≡ y)) ⊎ ((c ≡ true) × Has ys y)
 pick-cases true c x ys y h = inl (refl, only h.0 h.1)
@@ -48,40 +49,49 @@ pick-cases true c x ys y h = inl (refl, only h.0 h.1)
 pick-cases false true x ys y h = inr (refl, h)
 pick-cases false false x ys y h = absurd (has-none y h)
 
+-- a function over joined lists is one over each
 pub map-flat : {A B C : Type 0} (f : B → C) (g : A → List B) (xs : List A)
     → map f (flat_map g xs) ≡ flat_map (λ x. map f (g x)) xs
 map-flat f g [] = refl
 map-flat {A} {B} {C} f g (x ∷ xs) = map-append f (g x) (flat_map g xs)
     ∙ ap (λ (rest : List C). map f (g x) ++ rest) (map-flat f g xs)
 
+-- lists that are made alike are joined alike
 pub flat-same : {A B : Type 0} (f g : A → List B) → ((x : A) → f x ≡ g x) → (xs : List A)
     → flat_map f xs ≡ flat_map g xs
 flat-same f g same [] = refl
 flat-same {A} {B} f g same (x ∷ xs) = ap₂ (λ (one rest : List B). one ++ rest) (same x) (flat-same f g same xs)
 
+-- one function after another is one function
 pub map-map : {A B C : Type 0} (f : B → C) (g : A → B) (xs : List A) → map f (map g xs) ≡ map (λ x. f (g x)) xs
 map-map f g [] = refl
 map-map {A} {B} {C} f g (x ∷ xs) = ap (λ (rest : List C). f (g x) ∷ rest) (map-map f g xs)
 
+-- places do not change what is joined
 pub flat-numbered : {A B : Type 0} (f : A → List B) (k : ℕ) (xs : List A)
     → flat_map (λ (one : ℕ × A). f one.1) (enumerate_from k xs) ≡ flat_map f xs
 flat-numbered f k [] = refl
 flat-numbered {A} {B} f k (x ∷ xs) = ap (λ (rest : List B). f x ++ rest) (flat-numbered f (k + 1) xs)
 
+-- a basic event that is a definition
 abbrev pub own_basic : Entries → Entry → BasicEvent
 own_basic entries one = record { name = model_name one; place = one.place; expression = expression_in entries one }
 
+-- a basic event that a group defines
 abbrev pub group_basic : Entry → Text → BasicEvent
 group_basic group name = record { name = name; place = group.place; expression = None }
 
+-- what a definition adds to the basic events, each with what it stands for
 abbrev pub basic_pairs : Entries → ℕ × Entry → List (Meaning × BasicEvent)
 basic_pairs entries one =
     pick (is_kind kind.BasicEvent one.1) (is_kind kind.Group one.1) (definition one.0, own_basic entries one.1)
     (map (λ name. (of_group name, group_basic one.1 name)) (defined_by_group entries one.1))
 
+-- all basic events, each with what it stands for
 abbrev pub all_pairs : Entries → List (Meaning × BasicEvent)
 all_pairs entries = flat_map (basic_pairs entries) (enumerate_from 0 entries)
 
+-- what they stand for, in order
 pub pair-meanings : (entries : Entries)
     → map (λ (pair : Meaning × BasicEvent). pair.0) (all_pairs entries) ≡ all_basics entries
 pair-meanings entries = map-flat _ (basic_pairs entries) (enumerate_from 0 entries)
@@ -94,6 +104,7 @@ pair-meanings entries = map-flat _ (basic_pairs entries) (enumerate_from 0 entri
         ∙ ap (λ (ys : List Meaning). pick (is_kind kind.BasicEvent x.1) (is_kind kind.Group x.1) (definition x.0) ys)
         (map-map _ _ (defined_by_group entries x.1))
 
+-- they are the basic events of the model, in order
 pub pair-events : (entries : Entries)
     → map (λ (pair : Meaning × BasicEvent). pair.1) (all_pairs entries) ≡ flat_map (basics_of entries) entries
 pair-events entries =
@@ -110,6 +121,7 @@ pair-events entries =
 
 -- ---- what the pairs are
 
+-- the basic event is a definition
 pub record IsOwn (entries : Entries) (pair : Meaning × BasicEvent) : Type 0 where
   pub place : ℕ
   pub one : Entry
@@ -117,6 +129,7 @@ pub record IsOwn (entries : Entries) (pair : Meaning × BasicEvent) : Type 0 whe
   pub is : one.kind ≡ kind.BasicEvent
   pub pair_is : pair ≡ (definition place, own_basic entries one)
 
+-- the basic event is one that a group defines
 pub record IsOfGroup (entries : Entries) (pair : Meaning × BasicEvent) : Type 0 where
   pub place : ℕ
   pub one : Entry
@@ -126,6 +139,7 @@ pub record IsOfGroup (entries : Entries) (pair : Meaning × BasicEvent) : Type 0
   pub defined : Has (defined_by_group entries one) name
   pub pair_is : pair ≡ (of_group name, group_basic one name)
 
+-- each basic event is a definition, or one that a group defines
 pub pair-cases : (entries : Entries) (pair : Meaning × BasicEvent) → Has (all_pairs entries) pair
     → IsOwn entries pair ⊎ IsOfGroup entries pair
 pair-cases entries pair here =
@@ -153,6 +167,7 @@ pair-cases entries pair here =
           })
     ]
 
+-- the basic event that a definition is
 pub own-pair : (entries : Entries) (place : ℕ) (one : Entry) → slice_get entries place ≡ Some one
     → one.kind ≡ kind.BasicEvent → Has (all_pairs entries) (definition place, own_basic entries one)
 own-pair entries place one there is =
@@ -160,6 +175,7 @@ own-pair entries place one there is =
     has-flat (basic_pairs entries) (enumerate_from 0 entries) (place, one) _ (has-enumerated entries place one there)
     (rw basic (0, refl))
 
+-- the basic event of a name that a group defines
 pub group-pair : (entries : Entries) (place : ℕ) (one : Entry) (name : Text) → slice_get entries place ≡ Some one
     → one.kind ≡ kind.Group → Has (defined_by_group entries one) name
     → Has (all_pairs entries) (of_group name, group_basic one name)
@@ -172,18 +188,22 @@ group-pair entries place one name there is defined =
 
 -- ---- meanings
 
+-- texts that pass the test of equality are one
 pub text-exact : (a b : Text) → bytes_eq a b ≡ true → a ≡ b
 text-exact a b h = (bytes_eq-Decides a b).0 h
 
+-- a text equals itself
 pub text-own : (a : Text) → bytes_eq a a ≡ true
 text-own a = (bytes_eq-Decides a a).1 refl
 
+-- meanings that pass the test of equality are one
 pub same-exact : (one other : Meaning) → same_meaning (Some one) (Some other) ≡ true → one ≡ other
 same-exact (definition a) (definition b) h = ap definition (eqb-true a b h)
 same-exact (of_group a) (of_group b) h = ap of_group (text-exact a b h)
 same-exact (definition a) (of_group b) h = absurd (false≢true h)
 same-exact (of_group a) (definition b) h = absurd (false≢true h)
 
+-- a meaning equals itself
 pub same-own : (one : Meaning) → same_meaning (Some one) (Some one) ≡ true
 same-own (definition a) = eq-eqb a a refl
 same-own (of_group a) = text-own a
@@ -229,6 +249,7 @@ has-members (body.Start t) x h = absurd (has-none x h)
 has-members (body.Steps i l) x h = absurd (has-none x h)
 has-members (body.Walk b) x h = absurd (has-none x h)
 
+-- what defines a basic event is a group
 pub defining-group : (entries : Entries) (place : ℕ) (one : Entry) (name : Text) → IsEntry entries place one
     → Has (defined_by_group entries one) name → one.kind ≡ kind.Group
 defining-group entries place one name is defined =

@@ -8,7 +8,7 @@ use Rattle.psa_model.specs.declared.draft.Draft.{Draft}
 use Rattle.psa_model.specs.declared.draft.DraftDefinition.{DraftDefinition}
 use Rattle.psa_model.specs.declared.model.TheConstants.{MAX_DEPTH}
 use Rattle.psa_model.specs.declared.fault.FaultKind.{FaultKind}
-use Rattle.psa_checks.proofs.Basics.{map-map}
+use Rattle.psa_checks.proofs.BasicEvents.{map-map}
 use Rattle.psa_model.specs.Drafts.{reference_position, are_ascending, IsDraft, together, body_contents, has_body, position_of, stands_before}
 use Rattle.psa_names.specs.Outlines.{Reference, Entry, Entries, entry_of, entries_of}
 use Rattle.psa_names.specs.PlacedFaults.{PlacedFault, earliest, earlier, fault_at}
@@ -17,10 +17,10 @@ use Rattle.psa_names.specs.Chains.{references_of, is_chained, is_within_all}
 use Rattle.psa_names.specs.GroupRules.{is_allowed_group}
 use Rattle.psa_names.specs.NameFaults.{duplicates, bad_references, bad_groups, cycles, too_deep, fault_of_reference, reference_fault, or_next, first_fault}
 use Rattle.psa_names.specs.Meanings.{meaning_of}
-use Rattle.psa_checks.proofs.Places.{Has, has-none, has-later, has-cases, has-flat, has-kept, has-map, map-at, All-at, all-from}
-use Rattle.psa_checks.proofs.Numbered.{has-enumerated}
-use Rattle.psa_checks.proofs.Standing.{stands, IsEntry, AreEntries}
-use Rattle.psa_checks.proofs.Positions.{IsAscending, ascending-from}
+use Rattle.psa_checks.proofs.ListPlaces.{Has, has-none, has-later, has-cases, has-flat, has-kept, has-map, map-at, All-at, all-from}
+use Rattle.psa_checks.proofs.FirstPlaces.{has-enumerated}
+use Rattle.psa_checks.proofs.Definitions.{stands, IsEntry, AreEntries}
+use Rattle.psa_checks.proofs.ContentsOrder.{IsAscending, ascending-from}
 
 -- ---- no fault
 
@@ -53,6 +53,7 @@ pub record HasNoFault (entries : Entries) : Type 0 where
   pub cycle : cycles entries ≡ []
   pub deep : too_deep entries ≡ []
 
+-- where there is no first fault, no check has one
 pub has-no-fault : (entries : Entries) → first_fault entries ≡ None → HasNoFault entries
 has-no-fault entries h =
     let all = map-none (λ (one : PlacedFault). one.fault) _ h in
@@ -88,6 +89,7 @@ has-made {A} {B} f (z ∷ xs) x y here h = by_case (f z) refl (λ later. has-mad
       | inr later ↦ has-later w y (filter_map f xs) (rest later)
     ])
 
+-- each reference in a definition stands
 pub references-stand : (entries : Entries) (one : Entry) → bad_references entries ≡ [] → Has entries one
     → list_all (stands entries one) (references_of one) ≡ true
 references-stand entries one none here =

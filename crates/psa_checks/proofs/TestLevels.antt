@@ -23,9 +23,10 @@ use Rattle.psa_names.specs.Outlines.{test_layer as outline_layer}
 use Rattle.psa_names.specs.Resolved.{resolved_test, resolved_test_layer}
 use Rattle.psa_names.specs.Ids.{referred_id}
 use Rattle.psa_names.specs.ModelOfDraft.{model_from, linked_id}
-use Rattle.psa_checks.proofs.Places.{list_all-mapped}
-use Rattle.psa_checks.proofs.Standing.{AreEntries, initiating-meant, referred-at}
-use Rattle.psa_checks.proofs.Fine.{Fine, some-level, inside, fine-each}
+use Rattle.psa_checks.proofs.ListPlaces.{list_all-mapped}
+use Rattle.psa_checks.proofs.Definitions.{AreEntries}
+use Rattle.psa_checks.proofs.ReferencesStand.{initiating-meant, referred-at}
+use Rattle.psa_checks.proofs.SoundElements.{IsSound, some-level, inside, sound-each}
 
 out-initiating : (id : InitiatingId) → out-Test (test.Initiating id) ≡ Test-F.Initiating id
 out-initiating id = ap out-Test (sym (test.rolls-Initiating id)) ∙ out-roll-Test (Test-F.Initiating id)
@@ -46,9 +47,10 @@ out-not tests = ap out-Test (sym (test.rolls-Not tests)) ∙ out-roll-Test (Test
 -- each test of these levels in a definition is within as many in the model
 abbrev pub TestsAt : Entries → ℕ → Type 0
 TestsAt entries levels = (from : Entry) (t : DraftTest)
-    → Fine entries levels from (test_outline t ∷ []) (test_contents t ∷ [])
+    → IsSound entries levels from (test_outline t ∷ []) (test_contents t ∷ [])
     → test_within levels (model_from entries) (resolved_test entries from t) ≡ true
 
+-- the initiating event that a definition is in the model
 abbrev pub initiating_of : Entries → Entry → Initiating
 initiating_of entries one = record {
   name = one.name;
@@ -58,11 +60,11 @@ initiating_of entries one = record {
 
 some-tests : (levels : ℕ) (entries : Entries) (from : Entry) (tests : List DraftTest) (right : ℕ → Bool)
     → TestsAt entries levels → right (length (map test_contents tests)) ≡ true
-    → Fine entries levels from (map test_outline tests) (map test_contents tests)
+    → IsSound entries levels from (map test_outline tests) (map test_contents tests)
     → (right (length (map (resolved_test entries from) tests)) && list_all
     (λ t. test_within levels (model_from entries) t) (map (resolved_test entries from) tests)) ≡ true
 some-tests levels entries from tests right below number fine =
-    let all = fine-each entries levels from test_outline test_contents
+    let all = sound-each entries levels from test_outline test_contents
     (λ t. test_within levels (model_from entries) (resolved_test entries from t)) (below from) tests fine in
     and_from _ _
     (ap right (length-map tests (resolved_test entries from) ∙ sym (length-map tests test_contents)) ∙ number)
@@ -70,7 +72,7 @@ some-tests levels entries from tests right below number fine =
 
 layer-within : (levels : ℕ) (entries : Entries) (from : Entry) → AreEntries entries → TestsAt entries levels
     → (x : DraftTest-F DraftTest)
-    → Fine entries (suc levels) from (outline_layer (map-DraftTest DraftTest Outline test_outline x) ∷ [])
+    → IsSound entries (suc levels) from (outline_layer (map-DraftTest DraftTest Outline test_outline x) ∷ [])
     (test_contents_step (map-DraftTest DraftTest Contents test_contents x) ∷ [])
     → test_within (suc levels) (model_from entries)
     (resolved_test_layer entries from (map-DraftTest DraftTest Test (resolved_test entries from) x)) ≡ true
@@ -105,9 +107,9 @@ layer-within levels entries from are below (DraftTest-F.Not tests) fine =
 pub test-within : (levels : ℕ) (entries : Entries) → AreEntries entries → TestsAt entries levels
 test-within zero entries are from t fine = absurd (some-level entries from _ [] _ fine)
 test-within (suc levels) entries are from t fine =
-    let laid = subst (λ (o : Outline). Fine entries (suc levels) from (o ∷ []) (test_contents t ∷ []))
+    let laid = subst (λ (o : Outline). IsSound entries (suc levels) from (o ∷ []) (test_contents t ∷ []))
     (fold_out-DraftTest Outline outline_layer t) fine in
-    let both = subst (λ (c : Contents). Fine entries (suc levels) from
+    let both = subst (λ (c : Contents). IsSound entries (suc levels) from
     (outline_layer (map-DraftTest DraftTest Outline test_outline (out-DraftTest t)) ∷ []) (c ∷ []))
     (fold_out-DraftTest Contents test_contents_step t) laid in
     ap (test_within (suc levels) (model_from entries)) (fold_out-DraftTest Test (resolved_test_layer entries from) t)

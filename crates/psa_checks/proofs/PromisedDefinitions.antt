@@ -26,17 +26,19 @@ use Rattle.psa_names.specs.Ids.{is_kind, all_of_kind, referred_id}
 use Rattle.psa_names.specs.Resolved.{resolved_formula}
 use Rattle.psa_names.specs.Collected.{collected_by, collected_before, branch_collected, all_behind, resolved_instruction}
 use Rattle.psa_names.specs.ModelOfDraft.{model_from, formula_in, steps_in, instructions_in, branch_in, link_in, linked_id}
-use Rattle.psa_checks.proofs.Places.{Has, from-map, all-at, All-from, all-append}
+use Rattle.psa_checks.proofs.ListPlaces.{Has, from-map, all-at, All-from, all-append}
 use Rattle.psa_checks.proofs.KindForms.{gate-body, start-body, tree-body, branch-body, sequence-body, rule-body}
-use Rattle.psa_checks.proofs.Standing.{AreEntries, from-made, tree-meant, referred-at}
-use Rattle.psa_checks.proofs.Fine.{Fine, all_stand, entry-fine, entry-stand, outlines_by, together-numbers}
-use Rattle.psa_checks.proofs.Formulas.{formula-within, formula_by}
-use Rattle.psa_checks.proofs.Shallow.{are_shallow, together-shallow}
-use Rattle.psa_checks.proofs.Sitting.{AllSit}
-use Rattle.psa_checks.proofs.Instructions.{instruction-within, steps-fine, steps-within}
-use Rattle.psa_checks.proofs.Walks.{branch_by, tree_of, own-walk, tree-walk, walk-at}
-use Rattle.psa_checks.proofs.Nested.{formula-nested}
-use Rattle.psa_checks.proofs.NestedWalks.{instructions-nested, branch-nested, steps-collected, branch-collected-nested}
+use Rattle.psa_checks.proofs.Definitions.{AreEntries, from-made}
+use Rattle.psa_checks.proofs.ReferencesStand.{tree-meant, referred-at}
+use Rattle.psa_checks.proofs.SoundElements.{IsSound, all_stand, entry-sound, entry-stand, outlines_by, together-numbers}
+use Rattle.psa_checks.proofs.FormulaLevels.{formula-within, formula_by}
+use Rattle.psa_checks.proofs.ElementNesting.{are_shallow, together-shallow}
+use Rattle.psa_checks.proofs.CollectedPlaces.{CollectedStand}
+use Rattle.psa_checks.proofs.InstructionLevels.{instruction-within, steps-sound, steps-within}
+use Rattle.psa_checks.proofs.WalkLevels.{branch_by, tree_of, own-walk, tree-walk, walk-at}
+use Rattle.psa_checks.proofs.BodyNesting.{formula-nested}
+use Rattle.psa_checks.proofs.WalkNesting.{instructions-nested, branch-nested}
+use Rattle.psa_checks.proofs.CollectedNesting.{steps-collected, branch-collected-nested}
 use Rattle.psa_checks.proofs.CollectedLevels.{resolves_within, steps-resolve, branch-resolves}
 
 -- ---- lists of the model
@@ -50,15 +52,18 @@ kind-all its entries make P each = All-from P (map make (all_of_kind its entries
     let d = from-made its entries r.0 r.1 in
     subst P r.2 (each r.0.0 r.0.1 d.0 d.1)))
 
+-- a definition of a kind has its body
 pub its-body : (entries : Entries) (place : ℕ) (one : Entry) (its : DefinitionKind) → AreEntries entries
     → slice_get entries place ≡ Some one → one.kind ≡ its → has_body its one.body ≡ true
 its-body entries place one its are there is = subst (λ k. has_body k one.body ≡ true) is (are place one there).body
 
+-- a definition that chains lead through is within the greatest depth
 pub its-levels : (entries : Entries) (place : ℕ) (one : Entry) (its : DefinitionKind) → AreEntries entries
     → slice_get entries place ≡ Some one → one.kind ≡ its → is_chained its ≡ true
     → list_all (is_within MAX_DEPTH entries one) one.outlines ≡ true
 its-levels entries place one its are there is chained = (are place one there).within (ap is_chained is ∙ chained)
 
+-- a body is nested within the limit
 pub its-nesting : (entries : Entries) (place : ℕ) (one : Entry) (its : DraftBody) → AreEntries entries
     → slice_get entries place ≡ Some one → one.body ≡ its → are_shallow MAX_NESTING (body_contents its ∷ []) ≡ true
 its-nesting entries place one its are there is =
@@ -66,6 +71,7 @@ its-nesting entries place one its are there is =
     subst (λ (b : DraftBody). are_shallow MAX_NESTING (body_contents b ∷ []) ≡ true) is
     (and_from _ true (le-leb (body_contents one.body).nesting MAX_NESTING shallow) refl)
 
+-- what stands in a body has its numbers of arguments
 pub its-numbers : (entries : Entries) (place : ℕ) (one : Entry) (its : DraftBody) → AreEntries entries
     → slice_get entries place ≡ Some one → one.body ≡ its → (body_contents its).has_numbers ≡ true
 its-numbers entries place one its are there is = subst (λ (b : DraftBody). (body_contents b).has_numbers ≡ true) is
@@ -77,19 +83,21 @@ pub parts-shallow : (levels : ℕ) (all : List Contents) → are_shallow levels 
 parts-shallow levels all h = together-shallow levels all
     (leb-true (together all).nesting levels (and_parts _ true h).0)
 
+-- what stands together has its numbers where the whole has
 pub parts-numbers : (all : List Contents) → (together all).has_numbers ≡ true
     → list_all (λ (one : Contents). one.has_numbers) all ≡ true
 parts-numbers all h = sym (together-numbers all) ∙ h
 
 -- ---- gates
 
+-- what is promised of a gate
 pub gate-parts : (entries : Entries) (place : ℕ) (one : Entry) → AreEntries entries
     → slice_get entries place ≡ Some one → one.kind ≡ kind.Gate
     → (within MAX_DEPTH (model_from entries) (formula_in entries one) ≡ true)
     × (formula_nesting (formula_in entries one) ≤ MAX_NESTING)
 gate-parts entries place one are there is =
     let b = gate-body one.body (its-body entries place one kind.Gate are there is) in
-    let fine = entry-fine entries MAX_DEPTH place one kind.Gate (body.Formula b.0) (are place one there) is b.1
+    let fine = entry-sound entries MAX_DEPTH place one kind.Gate (body.Formula b.0) (are place one there) is b.1
     (its-levels entries place one kind.Gate are there is refl) in
     let says : formula_in entries one ≡ resolved_formula entries one b.0 = ap (formula_by entries one) b.1 in
     let shallow = its-nesting entries place one (body.Formula b.0) are there b.1 in (
@@ -100,16 +108,17 @@ gate-parts entries place one are there is =
 
 -- ---- instructions and branches
 
-pub rule-parts : (entries : Entries) (place : ℕ) (one : Entry) → AreEntries entries → AllSit entries
+-- what is promised of the instructions of a rule
+pub rule-parts : (entries : Entries) (place : ℕ) (one : Entry) → AreEntries entries → CollectedStand entries
     → slice_get entries place ≡ Some one → one.kind ≡ kind.Rule
     → (list_all (instruction_within MAX_DEPTH (model_from entries)) (instructions_in entries one) ≡ true)
     × (are_nested MAX_NESTING (instructions_in entries one) ≡ true)
 rule-parts entries place one are sit there is =
     let b = rule-body one.body (its-body entries place one kind.Rule are there is) in
-    let fine = entry-fine entries MAX_DEPTH place one kind.Rule (body.Steps b.0 None) (are place one there) is b.1
+    let fine = entry-sound entries MAX_DEPTH place one kind.Rule (body.Steps b.0 None) (are place one there) is b.1
     (its-levels entries place one kind.Rule are there is refl) in
     let within = steps-within MAX_DEPTH place entries one b.0 None sit (instruction-within MAX_DEPTH entries are sit)
-    there b.1 (steps-fine entries MAX_DEPTH one b.0 None fine).0 in
+    there b.1 (steps-sound entries MAX_DEPTH one b.0 None fine).0 in
     let shallow = (all-append (λ (c : Contents). nat_le c.nesting MAX_NESTING) (map instruction_contents b.0)
     (some_reference None ∷ []) (parts-shallow MAX_NESTING _
     (its-nesting entries place one (body.Steps b.0 None) are there b.1))).0 in (
@@ -128,7 +137,8 @@ walk-nested entries place one b are there is =
     (its-numbers entries place one (body.Walk b) are there is)
     (its-nesting entries place one (body.Walk b) are there is)
 
-pub tree-parts : (entries : Entries) (place : ℕ) (one : Entry) → AreEntries entries → AllSit entries
+-- what is promised of the branch of an event tree
+pub tree-parts : (entries : Entries) (place : ℕ) (one : Entry) → AreEntries entries → CollectedStand entries
     → slice_get entries place ≡ Some one → one.kind ≡ kind.EventTree
     → (walk_within MAX_DEPTH (model_from entries) (branch_in entries one) ≡ true)
     × (is_nested MAX_NESTING (branch_in entries one) ≡ true)
@@ -139,18 +149,20 @@ tree-parts entries place one are sit there is =
       walk-nested entries place one b.0 are there b.1,
     )
 
-pub branch-parts : (entries : Entries) (place : ℕ) (one : Entry) → AreEntries entries → AllSit entries
+-- what is promised of a named branch
+pub branch-parts : (entries : Entries) (place : ℕ) (one : Entry) → AreEntries entries → CollectedStand entries
     → slice_get entries place ≡ Some one → one.kind ≡ kind.Branch
     → (walk_within MAX_DEPTH (model_from entries) (branch_in entries one) ≡ true)
     × (is_nested MAX_NESTING (branch_in entries one) ≡ true)
 branch-parts entries place one are sit there is =
     let b = branch-body one.body (its-body entries place one kind.Branch are there is) in
-    let fine = entry-fine entries MAX_DEPTH place one kind.Branch (body.Walk b.0) (are place one there) is b.1
+    let fine = entry-sound entries MAX_DEPTH place one kind.Branch (body.Walk b.0) (are place one there) is b.1
     (its-levels entries place one kind.Branch are there is refl) in (
       own-walk MAX_DEPTH place entries one b.0 sit (walk-at MAX_DEPTH entries are sit) there b.1 fine,
       walk-nested entries place one b.0 are there b.1,
     )
 
+-- the instructions of a sequence are nested within the limit
 pub sequence-nested : (entries : Entries) (place : ℕ) (one : Entry) → AreEntries entries
     → slice_get entries place ≡ Some one → one.kind ≡ kind.Sequence
     → are_nested MAX_NESTING (instructions_in entries one) ≡ true
@@ -182,6 +194,7 @@ linked-by entries one its link is same h =
     (option_map (λ id. record { 0 = id }) (option_map (referred_id kind.EventTree event_tree entries one) o))
     (TreeStands (model_from entries))) (sym (ap link_in is ∙ same)) (link-stands entries one link h)
 
+-- the references in a body stand
 pub body-stands : (entries : Entries) (place : ℕ) (one : Entry) (its : DefinitionKind) (its_body : DraftBody)
     → AreEntries entries → slice_get entries place ≡ Some one → one.kind ≡ its → one.body ≡ its_body
     → list_all (all_stand entries one) (outlines_by its its_body) ≡ true
@@ -189,6 +202,7 @@ body-stands entries place one its its_body are there kind_is body_is =
     subst (λ (all : List Outline). list_all (all_stand entries one) all ≡ true) (ap₂ outlines_by kind_is body_is)
     (entry-stand entries place one (are place one there))
 
+-- the event tree that a sequence links to stands
 pub sequence-link : (entries : Entries) (place : ℕ) (one : Entry) → AreEntries entries
     → slice_get entries place ≡ Some one → one.kind ≡ kind.Sequence
     → IfSome (option_map (λ id. record { 0 = id }) (linked_id entries one)) (TreeStands (model_from entries))
@@ -198,6 +212,7 @@ sequence-link entries place one are there is =
     (body-stands entries place one kind.Sequence (body.Steps b.0 b.1) are there is b.2) in
     linked-by entries one (body.Steps b.0 b.1) b.1 b.2 refl stand.1
 
+-- the event tree of an initiating event stands
 pub initiating-link : (entries : Entries) (place : ℕ) (one : Entry) → AreEntries entries
     → slice_get entries place ≡ Some one → one.kind ≡ kind.InitiatingEvent
     → IfSome (option_map (λ id. record { 0 = id }) (linked_id entries one)) (TreeStands (model_from entries))
@@ -213,17 +228,18 @@ abbrev pub IsCollected : Entries → Entry → DraftFormula → Type 0
 IsCollected entries one f = (within MAX_DEPTH (model_from entries) (resolved_formula entries one f) ≡ true)
     × (formula_nesting (resolved_formula entries one f) ≤ MAX_NESTING)
 
+-- what is said of the formulas that instructions collect
 pub steps-collect : (entries : Entries) (place : ℕ) (one : Entry) (its : DefinitionKind) (all : List DraftInstruction)
     (link : Option DraftReference) → AreEntries entries → slice_get entries place ≡ Some one → one.kind ≡ its
     → is_chained its ≡ true → outlines_by its (body.Steps all link)
     ≡ (map instruction_outline all ++ link_outlines link) → one.body ≡ body.Steps all link → (f : DraftFormula)
     → Has (flat_map collected_by all) f → IsCollected entries one f
 steps-collect entries place one its all link are there kind_is chained laid is f here =
-    let whole = entry-fine entries MAX_DEPTH place one its (body.Steps all link) (are place one there) kind_is is
+    let whole = entry-sound entries MAX_DEPTH place one its (body.Steps all link) (are place one there) kind_is is
     (its-levels entries place one its are there kind_is chained) in
-    let flat = subst (λ (os : List Outline). Fine entries MAX_DEPTH one os (body_contents (body.Steps all link) ∷ []))
+    let flat = subst (λ (os : List Outline). IsSound entries MAX_DEPTH one os (body_contents (body.Steps all link) ∷ []))
     laid whole in
-    let fine = (steps-fine entries MAX_DEPTH one all link flat).0 in
+    let fine = (steps-sound entries MAX_DEPTH one all link flat).0 in
     let shallow = (all-append (λ (c : Contents). nat_le c.nesting MAX_NESTING) (map instruction_contents all)
     (some_reference link ∷ []) (parts-shallow MAX_NESTING _
     (its-nesting entries place one (body.Steps all link) are there is))).0 in (
@@ -234,9 +250,10 @@ steps-collect entries place one its all link are there kind_is chained laid is f
           (flat_map collected_by all) f (steps-collected MAX_NESTING entries one all shallow) here),
     )
 
+-- what is said of the formulas that a branch collects
 pub walk-collect : (entries : Entries) (place : ℕ) (one : Entry) (b : DraftBranch) → AreEntries entries
     → slice_get entries place ≡ Some one → one.body ≡ body.Walk b
-    → Fine entries MAX_DEPTH one (branch_outlines MAX_NESTING b) (branch_contents MAX_NESTING b ∷ [])
+    → IsSound entries MAX_DEPTH one (branch_outlines MAX_NESTING b) (branch_contents MAX_NESTING b ∷ [])
     → (f : DraftFormula) → Has (branch_collected MAX_NESTING b) f → IsCollected entries one f
 walk-collect entries place one b are there is fine f here = (
   all-at (resolves_within MAX_DEPTH entries one) (branch_collected MAX_NESTING b) f

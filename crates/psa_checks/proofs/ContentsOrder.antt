@@ -4,7 +4,7 @@ use Rattle.std.proofs.lemmas.Bool.{and_parts, and_from, or_cases, or_left, or_ri
 use Rattle.psa_model.specs.Drafts.{Position, stands_before, are_ascending, position_of}
 use Rattle.psa_names.specs.Outlines.{Entry}
 use Rattle.psa_names.specs.Collected.{contents_position, contents_before}
-use Rattle.psa_checks.proofs.Places.{Has, has-none, has-cases}
+use Rattle.psa_checks.proofs.ListPlaces.{Has, has-none, has-cases}
 
 -- ---- positions
 
@@ -50,6 +50,7 @@ same-before a b c h (inl k) = let e = h.0 in inl (omega (arith, k, e))
 same-before a b c h (inr k) = let e = h.0 in let g = h.1 in let f = k.0 in let l =
     k.1 in inr (omega (arith, e, f), omega (arith, l, g))
 
+-- positions are in order
 pub stands-before : (a b c : Position) → stands_before a b ≡ true → stands_before b c ≡ true
     → stands_before a c ≡ true
 stands-before a b c h k = from-before a c (before-before a b c (before-from a b h) (before-from b c k))
@@ -110,6 +111,7 @@ order-never c p d q (inl h) (inr k) = let x = before-same c d c h k.0 in before-
 order-never c p d q (inr h) (inl k) = let x = before-same d c d k h.0 in before-never d d x x
 order-never c p d q (inr h) (inr k) = before-never p q h.1 k.1
 
+-- contents are in order
 pub contents-contents : (a b c : Entry) → contents_before a b ≡ true → contents_before b c ≡ true
     → contents_before a c ≡ true
 contents-contents a b c h k =
@@ -119,6 +121,7 @@ contents-contents a b c h k =
     (order-from (contents_position a) (position_of a.definition) (contents_position b) (position_of b.definition) h)
     (order-from (contents_position b) (position_of b.definition) (contents_position c) (position_of c.definition) k))
 
+-- of two contents not each stands before the other
 pub contents-never : (a b : Entry) → contents_before a b ≡ true → contents_before b a ≡ true → ⊥
 contents-never a b h k =
     order-never (contents_position a) (position_of a.definition) (contents_position b) (position_of b.definition)
@@ -135,6 +138,7 @@ contents-total a b before h =
 
 -- ---- in order
 
+-- definitions in the order of their positions
 abbrev pub IsAscending : List Entry → Type 0
 IsAscending [] = Unit {0}
 IsAscending (one ∷ others) = ((other : Entry) → Has others other
@@ -158,6 +162,7 @@ rest-ascending : (one : Position) (others : List Position) → are_ascending (on
 rest-ascending one [] h = refl
 rest-ascending one (other ∷ others) h = (and_parts (stands_before one other) (are_ascending (other ∷ others)) h).1
 
+-- where positions ascend, definitions are in order
 pub ascending-from : (entries : List Entry)
     → are_ascending (map (λ (e : Entry). position_of e.definition) entries) ≡ true → IsAscending entries
 ascending-from [] h = tt

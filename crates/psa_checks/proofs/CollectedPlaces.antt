@@ -16,40 +16,45 @@ use Rattle.psa_names.specs.Outlines.{instruction_layer as outline_layer}
 use Rattle.psa_names.specs.Resolved.{resolved_formula}
 use Rattle.psa_names.specs.Collected.{Collecting, collected_by, collected_layer, collected_in, collected_before, total_size, resolved_instruction, resolved_instruction_layer}
 use Rattle.psa_names.specs.ModelOfDraft.{model_from}
-use Rattle.psa_checks.proofs.Places.{get-left, get-right}
-use Rattle.psa_checks.proofs.Fine.{Fine, some-level, inside, fine-parts}
+use Rattle.psa_checks.proofs.ListPlaces.{get-left, get-right}
+use Rattle.psa_checks.proofs.SoundElements.{IsSound, some-level, inside, sound-parts}
 
 -- these formulas of a definition stand in the model, from a place on
-abbrev pub Sits : Entries → Entry → ℕ → List DraftFormula → Type 0
-Sits entries from number all = (k : ℕ) (f : DraftFormula) → slice_get all k ≡ Some f
+abbrev pub StandFrom : Entries → Entry → ℕ → List DraftFormula → Type 0
+StandFrom entries from number all = (k : ℕ) (f : DraftFormula) → slice_get all k ≡ Some f
     → slice_get (model_from entries).formulas (number + k) ≡ Some (resolved_formula entries from f)
 
 -- the formulas that a definition collects stand behind those before it
-abbrev pub AllSit : Entries → Type 0
-AllSit entries = (place : ℕ) (one : Entry) → slice_get entries place ≡ Some one
-    → Sits entries one (collected_before entries one) (collected_in one.body)
+abbrev pub CollectedStand : Entries → Type 0
+CollectedStand entries = (place : ℕ) (one : Entry) → slice_get entries place ≡ Some one
+    → StandFrom entries one (collected_before entries one) (collected_in one.body)
 
-pub sits-left : (entries : Entries) (from : Entry) (number : ℕ) (fs gs : List DraftFormula)
-    → Sits entries from number (fs ++ gs) → Sits entries from number fs
-sits-left entries from number fs gs sits k f h = sits k f (get-left fs gs k f h)
+-- of two lists joined, the first
+pub stand-left : (entries : Entries) (from : Entry) (number : ℕ) (fs gs : List DraftFormula)
+    → StandFrom entries from number (fs ++ gs) → StandFrom entries from number fs
+stand-left entries from number fs gs sits k f h = sits k f (get-left fs gs k f h)
 
-pub sits-right : (entries : Entries) (from : Entry) (number : ℕ) (fs gs : List DraftFormula)
-    → Sits entries from number (fs ++ gs) → Sits entries from (number + length fs) gs
-sits-right entries from number fs gs sits k f h =
+-- of two lists joined, the second, behind the first
+pub stand-right : (entries : Entries) (from : Entry) (number : ℕ) (fs gs : List DraftFormula)
+    → StandFrom entries from number (fs ++ gs) → StandFrom entries from (number + length fs) gs
+stand-right entries from number fs gs sits k f h =
     let same : (number + length fs) + k ≡ number + (length fs + k) = omega arith in
     ap (slice_get (model_from entries).formulas) same ∙ sits (length fs + k) f (get-right fs gs k ∙ h)
 
+-- lists that are made of elements, joined
 pub flat-own : {A B : Type 0} (f : A → List B) (xs : List A) → flat_map (λ all. all) (map f xs) ≡ flat_map f xs
 flat-own f [] = refl
 flat-own {A} {B} f (x ∷ xs) = ap (λ (rest : List B). f x ++ rest) (flat-own f xs)
 
 -- ---- one layer
 
+-- what an instruction collects, by its layer
 pub collected-of : (i : DraftInstruction)
     → collected_by i ≡ collected_layer (map-DraftInstruction DraftInstruction (List DraftFormula) collected_by
     (out-DraftInstruction i))
 collected-of i = fold_out-DraftInstruction (List DraftFormula) collected_layer i
 
+-- an instruction in the model, by its layer
 pub resolved-of : (entries : Entries) (from : Entry) (i : DraftInstruction)
     → resolved_instruction entries from i ≡ resolved_instruction_layer entries from
     (map-DraftInstruction DraftInstruction (Collecting Instruction) (resolved_instruction entries from)
@@ -58,46 +63,46 @@ resolved-of entries from i = fold_out-DraftInstruction (Collecting Instruction)
     (resolved_instruction_layer entries from) i
 
 -- an instruction that is fine, by its layer
-pub layer-fine : (entries : Entries) (levels : ℕ) (from : Entry) (i : DraftInstruction)
-    → Fine entries levels from (instruction_outline i ∷ []) (instruction_contents i ∷ [])
-    → Fine entries levels from (outline_layer
+pub layer-sound : (entries : Entries) (levels : ℕ) (from : Entry) (i : DraftInstruction)
+    → IsSound entries levels from (instruction_outline i ∷ []) (instruction_contents i ∷ [])
+    → IsSound entries levels from (outline_layer
     (map-DraftInstruction DraftInstruction Outline instruction_outline (out-DraftInstruction i)) ∷ [])
     (instruction_step (map-DraftInstruction DraftInstruction Contents instruction_contents
     (out-DraftInstruction i)) ∷ [])
-layer-fine entries levels from i fine =
-    let laid = subst (λ (o : Outline). Fine entries levels from (o ∷ []) (instruction_contents i ∷ []))
+layer-sound entries levels from i fine =
+    let laid = subst (λ (o : Outline). IsSound entries levels from (o ∷ []) (instruction_contents i ∷ []))
     (fold_out-DraftInstruction Outline outline_layer i) fine in
-    subst (λ (c : Contents). Fine entries levels from
+    subst (λ (c : Contents). IsSound entries levels from
     (outline_layer (map-DraftInstruction DraftInstruction Outline instruction_outline
     (out-DraftInstruction i)) ∷ []) (c ∷ [])) (fold_out-DraftInstruction Contents instruction_step i) laid
 
 -- what stands in a block
 pub block-parts : (entries : Entries) (levels : ℕ) (from : Entry) (all : List DraftInstruction)
-    → Fine entries (suc levels) from (outline_layer (DraftInstruction-F.Block (map instruction_outline all)) ∷ [])
+    → IsSound entries (suc levels) from (outline_layer (DraftInstruction-F.Block (map instruction_outline all)) ∷ [])
     (instruction_step (DraftInstruction-F.Block (map instruction_contents all)) ∷ [])
-    → Fine entries levels from (map instruction_outline all) (map instruction_contents all)
+    → IsSound entries levels from (map instruction_outline all) (map instruction_contents all)
 block-parts entries levels from all fine =
     (inside entries levels from None (map instruction_outline all) true None (map instruction_contents all) fine).fine
 
 -- what stands in a conditional instruction: its numbers of instructions, the test, and both lists
 pub if-parts : (entries : Entries) (levels : ℕ) (from : Entry) (test : DraftTest)
-    (first second : List DraftInstruction) → Fine entries (suc levels) from
+    (first second : List DraftInstruction) → IsSound entries (suc levels) from
     (outline_layer (DraftInstruction-F.If test (map instruction_outline first) (map instruction_outline second)) ∷ [])
     (instruction_step (DraftInstruction-F.If test (map instruction_contents first)
     (map instruction_contents second)) ∷ []) → ((length (map instruction_contents first) == 1 && nat_le (length
-    (map instruction_contents second)) 1) ≡ true) × Fine entries levels from (test_outline test ∷ [])
-    (test_contents test ∷ []) × Fine entries levels from (map instruction_outline first)
-    (map instruction_contents first) × Fine entries levels from (map instruction_outline second)
+    (map instruction_contents second)) 1) ≡ true) × IsSound entries levels from (test_outline test ∷ [])
+    (test_contents test ∷ []) × IsSound entries levels from (map instruction_outline first)
+    (map instruction_contents first) × IsSound entries levels from (map instruction_outline second)
     (map instruction_contents second)
 if-parts entries levels from test first second fine =
     let inner = inside entries levels from None
     (test_outline test ∷ map instruction_outline first ++ map instruction_outline second)
     (length (map instruction_contents first) == 1 && nat_le (length (map instruction_contents second)) 1) None
     (test_contents test ∷ map instruction_contents first ++ map instruction_contents second) fine in
-    let head = fine-parts entries levels from (test_outline test ∷ [])
+    let head = sound-parts entries levels from (test_outline test ∷ [])
     (map instruction_outline first ++ map instruction_outline second) (test_contents test ∷ [])
     (map instruction_contents first ++ map instruction_contents second) inner.fine in
-    let rest = fine-parts entries levels from (map instruction_outline first) (map instruction_outline second)
+    let rest = sound-parts entries levels from (map instruction_outline first) (map instruction_outline second)
     (map instruction_contents first) (map instruction_contents second) head.1 in
     (inner.right_number, head.0, rest.0, rest.1)
 
@@ -105,15 +110,16 @@ if-parts entries levels from test first second fine =
 
 -- each instruction of these levels has as its size the number of formulas that it collects
 abbrev pub SizesAt : Entries → ℕ → Type 0
-SizesAt entries levels = (from : Entry) (i : DraftInstruction) → Fine entries levels from (instruction_outline i ∷ [])
+SizesAt entries levels = (from : Entry) (i : DraftInstruction) → IsSound entries levels from (instruction_outline i ∷ [])
     (instruction_contents i ∷ []) → (resolved_instruction entries from i).size ≡ length (collected_by i)
 
+-- the sizes of instructions together are the number of formulas that they collect
 pub total : (levels : ℕ) (entries : Entries) (from : Entry) → SizesAt entries levels → (all : List DraftInstruction)
-    → Fine entries levels from (map instruction_outline all) (map instruction_contents all)
+    → IsSound entries levels from (map instruction_outline all) (map instruction_contents all)
     → total_size (map (resolved_instruction entries from) all) ≡ length (flat_map (λ fs. fs) (map collected_by all))
 total levels entries from sizes [] fine = refl
 total levels entries from sizes (i ∷ all) fine =
-    let parts = fine-parts entries levels from (instruction_outline i ∷ []) (map instruction_outline all)
+    let parts = sound-parts entries levels from (instruction_outline i ∷ []) (map instruction_outline all)
     (instruction_contents i ∷ []) (map instruction_contents all) fine in
     sum_by-cons (λ (n : ℕ). n) (resolved_instruction entries from i).size
     (map (λ one. one.size) (map (resolved_instruction entries from) all))
@@ -122,7 +128,7 @@ total levels entries from sizes (i ∷ all) fine =
 
 size-layer : (levels : ℕ) (entries : Entries) (from : Entry) → SizesAt entries levels
     → (x : DraftInstruction-F DraftInstruction)
-    → Fine entries (suc levels) from (outline_layer
+    → IsSound entries (suc levels) from (outline_layer
     (map-DraftInstruction DraftInstruction Outline instruction_outline x) ∷ [])
     (instruction_step (map-DraftInstruction DraftInstruction Contents instruction_contents x) ∷ [])
     → (resolved_instruction_layer entries from
@@ -146,5 +152,5 @@ instruction-size zero entries from i fine = absurd (some-level entries from _ []
 instruction-size (suc levels) entries from i fine =
     ap (λ (c : Collecting Instruction). c.size) (resolved-of entries from i)
     ∙ size-layer levels entries from (instruction-size levels entries) (out-DraftInstruction i)
-    (layer-fine entries (suc levels) from i fine)
+    (layer-sound entries (suc levels) from i fine)
     ∙ ap length (sym (collected-of i))

@@ -1,30 +1,21 @@
 -- The collected formulas of each definition stand in the model behind those of the definitions before it.
-use Rattle.std.proofs.Common.{◌≡◌, ◌⊎◌, inl, inr, ◌+◌, ℕ, true, false, List, [], ◌∷◌, Some, map, length, refl, sym, ap, ap₂, ◌∙◌, subst, arith}
+use Rattle.std.proofs.Common.{◌≡◌, ◌⊎◌, inl, inr, ◌+◌, ℕ, true, false, List, [], ◌∷◌, Some, map, length, refl, sym, ap, ◌∙◌, subst, arith}
 use Rattle.std.proofs.lemmas.Bool.{cases_Bool, false_from_ne_true}
 use Rattle.std.proofs.lemmas.List.{length-map}
-use Rattle.std.proofs.lemmas.List.Sums.{sum_by-cons}
 use Rattle.std.proofs.lemmas.Option.{slice_get-map}
-use Rattle.std.specs.Prelude.{sum, if◌then◌else◌}
+use Rattle.std.specs.Prelude.{if◌then◌else◌}
 use Rattle.std.specs.List.{slice_get, flat_map}
 use Rattle.std.specs.Option.{option_map}
 use Rattle.psa_names.specs.Outlines.{Entry, Entries}
 use Rattle.psa_names.specs.Resolved.{resolved_formula}
 use Rattle.psa_names.specs.Collected.{contents_before, placed, by_contents, collected_in, collected_before}
 use Rattle.psa_names.specs.ModelOfDraft.{model_from}
-use Rattle.psa_checks.proofs.Places.{Has, has-none, has-first, has-later, has-cases, get-left, get-right}
-use Rattle.psa_checks.proofs.Positions.{IsAscending, contents-contents, contents-never, contents-total}
-use Rattle.psa_checks.proofs.Sitting.{AllSit}
+use Rattle.psa_checks.proofs.ListPlaces.{Has, has-none, has-first, has-later, has-cases, get-left, get-right}
+use Rattle.psa_checks.proofs.ContentsOrder.{IsAscending, contents-contents, contents-never, contents-total}
+use Rattle.psa_checks.proofs.CollectedPlaces.{CollectedStand}
+use Rattle.psa_checks.proofs.Sums.{weigh, sum-weigh, weigh-same}
 
 -- ---- sums
-
--- a sum over a list, by recursion
-abbrev pub weigh : {A : Type 0} → (A → ℕ) → List A → ℕ
-weigh f [] = 0
-weigh f (x ∷ xs) = f x + weigh f xs
-
-pub sum-weigh : {A : Type 0} (f : A → ℕ) (xs : List A) → sum (map f xs) ≡ weigh f xs
-sum-weigh f [] = refl
-sum-weigh f (x ∷ xs) = sum_by-cons (λ (n : ℕ). n) (f x) (map f xs) ∙ ap (λ n. f x + n) (sum-weigh f xs)
 
 weigh-placed : (f : Entry → ℕ) (one : Entry) (xs : List Entry) → weigh f (placed one xs) ≡ f one + weigh f xs
 weigh-placed f one [] = refl
@@ -33,6 +24,7 @@ weigh-placed f one (other ∷ others) = elim (cases_Bool (contents_before other 
   | inr after ↦ rw after refl
 ]
 
+-- the order of contents does not change a sum
 pub weigh-by : (f : Entry → ℕ) (xs : List Entry) → weigh f (by_contents xs) ≡ weigh f xs
 weigh-by f [] = refl
 weigh-by f (x ∷ xs) = weigh-placed f x (by_contents xs) ∙ ap (λ n. f x + n) (weigh-by f xs)
@@ -69,6 +61,7 @@ placed-other one (other ∷ others) y h = elim (cases_Bool (contents_before othe
   | inr after ↦ rw after (has-later one y (other ∷ others) h)
 ]
 
+-- each definition is among those in the order of contents
 pub has-by : (xs : List Entry) (y : Entry) → Has xs y → Has (by_contents xs) y
 has-by [] y h = h
 has-by (x ∷ xs) y h = elim (has-cases x y xs h) [
@@ -76,6 +69,7 @@ has-by (x ∷ xs) y h = elim (has-cases x y xs h) [
   | inr later ↦ placed-other x (by_contents xs) y (has-by xs y later)
 ]
 
+-- each in the order of contents is a definition
 pub from-by : (xs : List Entry) (y : Entry) → Has (by_contents xs) y → Has xs y
 from-by [] y h = h
 from-by (x ∷ xs) y h = elim (from-placed x (by_contents xs) y h) [
@@ -159,13 +153,9 @@ part-at {B} g one (x ∷ xs) sorted here k v h = elim (has-cases x one xs here) 
       ∙ part-at g one xs sorted.1 later k v h
 ]
 
-pub weigh-same : {A : Type 0} (f g : A → ℕ) → ((x : A) → f x ≡ g x) → (xs : List A) → weigh f xs ≡ weigh g xs
-weigh-same f g same [] = refl
-weigh-same f g same (x ∷ xs) = ap₂ (λ (a b : ℕ). a + b) (same x) (weigh-same f g same xs)
-
 -- the formulas that a definition collects stand behind those of the definitions before it
-pub all-sit : (entries : Entries) → IsAscending entries → AllSit entries
-all-sit entries ascending place one there k f h =
+pub collected-stand : (entries : Entries) → IsAscending entries → CollectedStand entries
+collected-stand entries ascending place one there k f h =
     let g = λ (y : Entry). map (resolved_formula entries y) (collected_in y.body) in
     let at = part-at g one (by_contents entries) (by-sorted entries ascending) (has-by entries one (place, there)) k
     (resolved_formula entries one f)

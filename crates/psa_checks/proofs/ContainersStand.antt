@@ -12,9 +12,9 @@ use Rattle.psa_model.specs.declared.draft.DraftDefinition.{DraftDefinition}
 use Rattle.psa_model.specs.Drafts.{same_texts, is_fault_tree, is_event_tree, is_component, names_container, names_event_tree, has_container, have_containers}
 use Rattle.psa_names.specs.Outlines.{Entry, entry_of}
 use Rattle.psa_names.specs.Ids.{kind_number, is_kind, all_of_kind, tree_id}
-use Rattle.psa_checks.proofs.Places.{Has, has-none, has-cases, has-left, append-cases, has-map, has-kept, any-from}
-use Rattle.psa_checks.proofs.Numbered.{position-of, position-at, has-enumerated}
-use Rattle.psa_checks.proofs.Basics.{text-exact, text-own}
+use Rattle.psa_checks.proofs.ListPlaces.{Has, has-none, has-cases, has-left, append-cases, has-map, has-kept, any-from}
+use Rattle.psa_checks.proofs.FirstPlaces.{position-of, position-at, has-enumerated}
+use Rattle.psa_checks.proofs.BasicEvents.{text-exact, text-own}
 
 -- ---- containers
 
@@ -154,6 +154,7 @@ event-tree-kind : (its : DefinitionKind) → is_event_tree its ≡ true
 event-tree-kind kind.EventTree h = refl
 event-tree-kind _ h = absurd (false≢true h)
 
+-- the fault tree around a definition is one of the model
 pub fault-tree-stands : (definitions : List DraftDefinition) (around : List Text) → IsRooted definitions around
     → tree_id kind.FaultTree (map entry_of definitions) around < length
     (all_of_kind kind.FaultTree (map entry_of definitions))
@@ -161,6 +162,7 @@ fault-tree-stands definitions [] h = absurd h
 fault-tree-stands definitions (tree ∷ parts) h = tree-below kind.FaultTree definitions tree parts h.0 h.1
     (fault-tree-kind h.0.kind h.2) h.3
 
+-- the event tree around a definition is one of the model
 pub event-tree-stands : (definitions : List DraftDefinition) (around : List Text) → IsInEventTree definitions around
     → tree_id kind.EventTree (map entry_of definitions) around < length
     (all_of_kind kind.EventTree (map entry_of definitions))

@@ -4,7 +4,7 @@ use Rattle.std.proofs.lemmas.Bool.{cases_Bool, cases_lt, lt-ltb, le-ltb, eq-eqb,
 use Rattle.std.proofs.lemmas.Option.{same_Some, none-some}
 use Rattle.std.specs.List.{slice_get, filter, position, prefix_len, enumerate_from}
 use Rattle.std.specs.Option.{option_map}
-use Rattle.psa_checks.proofs.Places.{Has, has-none, has-cases}
+use Rattle.psa_checks.proofs.ListPlaces.{Has, has-none, has-cases}
 
 -- the first place that passes, by recursion
 abbrev pub first : {A : Type 0} → (A → Bool) → List A → Option ℕ
@@ -18,6 +18,7 @@ shifted n m = elim (cases_lt n m) [
   | inr above ↦ rw (le-ltb (1 + n) (suc m) (omega arith), le-ltb n m above) refl
 ]
 
+-- the first place, by recursion
 pub position-first : {A : Type 0} (p : A → Bool) (xs : List A) → position p xs ≡ first p xs
 position-first p [] = refl
 position-first p (x ∷ xs) = elim (cases_Bool (p x)) [
@@ -30,6 +31,7 @@ some-suc : (o : Option ℕ) (i : ℕ) → option_map suc o ≡ Some i → (j : �
 some-suc None i h = absurd (none-some i h)
 some-suc (Some j) i h = (j, refl, sym (same_Some (suc j) i h))
 
+-- what stands at the first place that passes
 pub first-at : {A : Type 0} (p : A → Bool) (xs : List A) (i : ℕ) → first p xs ≡ Some i
     → (x : A) × (slice_get xs i ≡ Some x) × (p x ≡ true)
 first-at p [] i h = absurd (none-some i h)
@@ -41,6 +43,7 @@ first-at {A} p (x ∷ xs) i h = elim (cases_Bool (p x)) [
       (r.0, ap (λ n. slice_get (x ∷ xs) n) before.2 ∙ r.1, r.2)
 ]
 
+-- where something passes, there is a first place
 pub first-of : {A : Type 0} (p : A → Bool) (xs : List A) (x : A) → Has xs x → p x ≡ true
     → (i : ℕ) × (first p xs ≡ Some i)
 first-of p [] x h passes = absurd (has-none x h)
@@ -52,16 +55,19 @@ first-of p (y ∷ xs) x h passes = elim (cases_Bool (p y)) [
   ]
 ]
 
+-- what stands at the position that is found
 pub position-at : {A : Type 0} (p : A → Bool) (xs : List A) (i : ℕ) → position p xs ≡ Some i
     → (x : A) × (slice_get xs i ≡ Some x) × (p x ≡ true)
 position-at p xs i h = first-at p xs i (sym (position-first p xs) ∙ h)
 
+-- where something passes, a position is found
 pub position-of : {A : Type 0} (p : A → Bool) (xs : List A) (x : A) → Has xs x → p x ≡ true
     → (i : ℕ) × (position p xs ≡ Some i)
 position-of p xs x h passes = let r = first-of p xs x h passes in (r.0, position-first p xs ∙ r.1)
 
 -- ---- elements with their places
 
+-- an element at a place, with its place
 pub enumerated-at : {A : Type 0} (k : ℕ) (xs : List A) (i : ℕ) (one : ℕ × A)
     → slice_get (enumerate_from k xs) i ≡ Some one → (one.0 ≡ k + i) × (slice_get xs i ≡ Some one.1)
 enumerated-at k [] i one h = absurd (none-some one h)
@@ -74,6 +80,7 @@ enumerated-at k (x ∷ xs) (suc i) one h =
     let number = rest.0 in
     (omega (arith, number), rest.1)
 
+-- an element with its place stands there
 pub from-enumerated : {A : Type 0} (xs : List A) (one : ℕ × A) → Has (enumerate_from 0 xs) one
     → slice_get xs one.0 ≡ Some one.1
 from-enumerated xs one h =
@@ -81,6 +88,7 @@ from-enumerated xs one h =
     let number : one.0 ≡ h.0 = let n = found.0 in omega (arith, n) in
     ap (λ n. slice_get xs n) number ∙ found.1
 
+-- an element stands with its place
 pub enumerate-get : {A : Type 0} (k : ℕ) (xs : List A) (i : ℕ) (x : A) → slice_get xs i ≡ Some x
     → slice_get (enumerate_from k xs) i ≡ Some (k + i, x)
 enumerate-get k [] i x h = absurd (none-some x h)
@@ -91,6 +99,7 @@ enumerate-get {A} k (y ∷ xs) (suc i) x h =
     let number : (k + 1) + i ≡ k + suc i = omega arith in
     enumerate-get (k + 1) xs i x h ∙ ap (λ n. Some (n, x)) number
 
+-- an element is among those with their places
 pub has-enumerated : {A : Type 0} (xs : List A) (i : ℕ) (x : A) → slice_get xs i ≡ Some x
     → Has (enumerate_from 0 xs) (i, x)
 has-enumerated xs i x h =

@@ -30,21 +30,25 @@ use Rattle.psa_names.specs.Chains.{is_chained, chained_place, passes_on, is_with
 use Rattle.psa_names.specs.NameFaults.{reference_fault}
 use Rattle.psa_names.specs.Ids.{kind_number, is_kind, id_of, basic_id}
 use Rattle.psa_checks.proofs.KindForms.{gate-body, is-event}
-use Rattle.psa_checks.proofs.Places.{list_all-mapped}
-use Rattle.psa_checks.proofs.Standing.{AreEntries, IsEvent, made-at, event-at}
-use Rattle.psa_checks.proofs.Fine.{Fine, some-level, inside, fine-each, entry-fine}
-use Rattle.psa_checks.proofs.Basics.{own-pair, basic-pair-at, defined-pair}
+use Rattle.psa_checks.proofs.ListPlaces.{list_all-mapped}
+use Rattle.psa_checks.proofs.Definitions.{AreEntries, made-at}
+use Rattle.psa_checks.proofs.ReferencesStand.{IsEvent, event-at}
+use Rattle.psa_checks.proofs.SoundElements.{IsSound, some-level, inside, sound-each, entry-sound}
+use Rattle.psa_checks.proofs.BasicEvents.{own-pair, basic-pair-at, defined-pair}
 
 -- ---- one layer
 
+-- the outline of a formula, by its layer
 pub outline-of : (f : DraftFormula)
     → formula_outline f ≡ formula_layer (map-DraftFormula DraftFormula Outline formula_outline (out-DraftFormula f))
 outline-of f = fold_out-DraftFormula Outline formula_layer f
 
+-- the contents of a formula, by its layer
 pub contents-of : (f : DraftFormula)
     → formula_contents f ≡ formula_step (map-DraftFormula DraftFormula Contents formula_contents (out-DraftFormula f))
 contents-of f = fold_out-DraftFormula Contents formula_step f
 
+-- a formula in the model, by its layer
 pub resolved-of : (entries : Entries) (from : Entry) (f : DraftFormula)
     → resolved_formula entries from f ≡ resolved_formula_layer entries from
     (map-DraftFormula DraftFormula Formula (resolved_formula entries from) (out-DraftFormula f))
@@ -52,7 +56,7 @@ resolved-of entries from f = fold_out-DraftFormula Formula (resolved_formula_lay
 
 -- each formula of these levels in a definition is within as many in the model
 abbrev pub FormulasAt : Entries → ℕ → Type 0
-FormulasAt entries levels = (from : Entry) (f : DraftFormula) → Fine entries levels from (formula_outline f ∷ [])
+FormulasAt entries levels = (from : Entry) (f : DraftFormula) → IsSound entries levels from (formula_outline f ∷ [])
     (formula_contents f ∷ []) → within levels (model_from entries) (resolved_formula entries from f) ≡ true
 
 -- what a gate with a body says
@@ -60,6 +64,7 @@ abbrev pub formula_by : Entries → Entry → DraftBody → Formula
 formula_by entries one (body.Formula its) = resolved_formula entries one its
 formula_by entries one _ = formula.Constant false
 
+-- the house event that a definition is in the model
 abbrev pub house_of : Entry → House
 house_of one = record { name = model_name one; place = one.place; state = state_in one.body }
 
@@ -73,7 +78,7 @@ unfolding within
 within-gate levels entries from its name place one are there is below h =
     let entry = are place one there in
     let b = gate-body one.body (subst (λ k. has_body k one.body ≡ true) is entry.body) in
-    let fine = entry-fine entries levels place one kind.Gate (body.Formula b.0) entry is b.1 h in
+    let fine = entry-sound entries levels place one kind.Gate (body.Formula b.0) entry is b.1 h in
     let says : formula_in entries one ≡ resolved_formula entries one b.0 = ap (formula_by entries one) b.1 in
     let right : is_kind kind.Gate one ≡ true = ap (λ k. kind_number k == 1) is in
     let at = made-at kind.Gate entries (gate_of entries) place one there right in
@@ -127,7 +132,7 @@ event-meaning levels entries from its name (Some (definition place)) are below a
 
 layer-within : (levels : ℕ) (entries : Entries) (from : Entry) → AreEntries entries → FormulasAt entries levels
     → (x : DraftFormula-F DraftFormula)
-    → Fine entries (suc levels) from (formula_layer (map-DraftFormula DraftFormula Outline formula_outline x) ∷ [])
+    → IsSound entries (suc levels) from (formula_layer (map-DraftFormula DraftFormula Outline formula_outline x) ∷ [])
     (formula_step (map-DraftFormula DraftFormula Contents formula_contents x) ∷ [])
     → within (suc levels) (model_from entries)
     (resolved_formula_layer entries from (map-DraftFormula DraftFormula Formula (resolved_formula entries from) x))
@@ -144,7 +149,7 @@ layer-within levels entries from are below (DraftFormula-F.Connective operator l
     let inner = inside entries levels from None (map formula_outline arguments)
     (has_arity operator least most (length (map formula_contents arguments))) None
     (map formula_contents arguments) fine in
-    let all = fine-each entries levels from formula_outline formula_contents
+    let all = sound-each entries levels from formula_outline formula_contents
     (λ f. within levels (model_from entries) (resolved_formula entries from f)) (below from)
     arguments inner.fine in
     let number : has_arity operator least most (length (map (resolved_formula entries from) arguments)) ≡ true =
@@ -158,9 +163,9 @@ layer-within levels entries from are below (DraftFormula-F.Connective operator l
 pub formula-within : (levels : ℕ) (entries : Entries) → AreEntries entries → FormulasAt entries levels
 formula-within zero entries are from f fine = absurd (some-level entries from _ [] _ fine)
 formula-within (suc levels) entries are from f fine =
-    let laid = subst (λ (o : Outline). Fine entries (suc levels) from (o ∷ []) (formula_contents f ∷ []))
+    let laid = subst (λ (o : Outline). IsSound entries (suc levels) from (o ∷ []) (formula_contents f ∷ []))
     (outline-of f) fine in
-    let both = subst (λ (c : Contents). Fine entries (suc levels) from
+    let both = subst (λ (c : Contents). IsSound entries (suc levels) from
     (formula_layer (map-DraftFormula DraftFormula Outline formula_outline (out-DraftFormula f)) ∷ []) (c ∷ []))
     (contents-of f) laid in
     ap (within (suc levels) (model_from entries)) (resolved-of entries from f)

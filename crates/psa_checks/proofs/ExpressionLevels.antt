@@ -31,16 +31,19 @@ use Rattle.psa_names.specs.Resolved.{resolved_expression, resolved_expression_la
 use Rattle.psa_names.specs.Ids.{referred_id}
 use Rattle.psa_names.specs.ModelOfDraft.{model_from, model_name, expression_in}
 use Rattle.psa_model.specs.declared.model.Model.{Model}
-use Rattle.psa_checks.proofs.Places.{list_all-mapped, all-append}
+use Rattle.psa_checks.proofs.ListPlaces.{list_all-mapped, all-append}
 use Rattle.psa_checks.proofs.KindForms.{parameter-body}
-use Rattle.psa_checks.proofs.Standing.{AreEntries, parameter-meant, referred-at, led-on, stands}
-use Rattle.psa_checks.proofs.Fine.{Fine, some-level, inside, fine-each, entry-fine, all_stand, together-numbers, stand-joined}
-use Rattle.psa_checks.proofs.Shallow.{are_shallow, inside-shallow, no-nesting}
+use Rattle.psa_checks.proofs.Definitions.{AreEntries, stands}
+use Rattle.psa_checks.proofs.ReferencesStand.{parameter-meant, referred-at, leads-on}
+use Rattle.psa_checks.proofs.SoundElements.{IsSound, some-level, inside, sound-each, entry-sound, all_stand, together-numbers, stand-joined}
+use Rattle.psa_checks.proofs.ElementNesting.{are_shallow, inside-shallow, no-nesting}
 
+-- the layer of a parameter
 pub out-parameter : (id : ParameterId) → out-Expression (expression.Parameter id) ≡ Expression-F.Parameter id
 out-parameter id = ap out-Expression (sym (expression.rolls-Parameter id))
     ∙ out-roll-Expression (Expression-F.Parameter id)
 
+-- the layer of the mission time
 pub out-time : out-Expression expression.MissionTime ≡ Expression-F.MissionTime
 out-time = ap out-Expression (sym expression.rolls-MissionTime) ∙ out-roll-Expression Expression-F.MissionTime
 
@@ -49,6 +52,7 @@ abbrev pub expression_by : Entries → Entry → DraftBody → Option Expression
 expression_by entries one (body.Value its) = option_map (resolved_expression entries one) its
 expression_by entries one _ = None
 
+-- the parameter that a definition is in the model
 abbrev pub parameter_of : Entries → Entry → Parameter
 parameter_of entries one = record {
   name = model_name one;
@@ -56,6 +60,7 @@ parameter_of entries one = record {
   expression = unwrap_or (expression_in entries one) expression.MissionTime;
 }
 
+-- its expression, by its body
 pub parameter-says : (entries : Entries) (one : Entry) (value : DraftExpression) → one.body ≡ body.Value (Some value)
     → (parameter_of entries one).expression ≡ resolved_expression entries one value
 parameter-says entries one value is = ap (λ (b : DraftBody). unwrap_or (expression_by entries one b)
@@ -64,7 +69,7 @@ parameter-says entries one value is = ap (λ (b : DraftBody). unwrap_or (express
 -- each expression of these levels in a definition is within as many in the model
 abbrev pub ExpressionsAt : Entries → ℕ → Type 0
 ExpressionsAt entries levels = (from : Entry) (e : DraftExpression)
-    → Fine entries levels from (expression_outline e ∷ []) (expression_contents e ∷ [])
+    → IsSound entries levels from (expression_outline e ∷ []) (expression_contents e ∷ [])
     → value_within levels (model_from entries) (resolved_expression entries from e) ≡ true
 
 -- the parameter that is meant is within the levels that are left
@@ -75,8 +80,8 @@ parameter-within : (levels : ℕ) (entries : Entries) (place : ℕ) (one : Entry
 parameter-within levels entries place one are below there is h =
     let entry = are place one there in
     let b = parameter-body one.body (subst (λ k. has_body k one.body ≡ true) is entry.body) in
-    let fine = entry-fine entries levels place one kind.Parameter (body.Value (Some b.0)) entry is b.1 h in
-    let one_fine : Fine entries levels one (expression_outline b.0 ∷ []) (expression_contents b.0 ∷ []) = record {
+    let fine = entry-sound entries levels place one kind.Parameter (body.Value (Some b.0)) entry is b.1 h in
+    let one_fine : IsSound entries levels one (expression_outline b.0 ∷ []) (expression_contents b.0 ∷ []) = record {
       within = fine.within;
       stand = fine.stand;
       numbers = and_from _ true (and_parts (expression_contents b.0).has_numbers true
@@ -86,7 +91,7 @@ parameter-within levels entries place one are below there is h =
 
 layer-within : (levels : ℕ) (entries : Entries) (from : Entry) → AreEntries entries → ExpressionsAt entries levels
     → (x : DraftExpression-F DraftExpression)
-    → Fine entries (suc levels) from (expression_layer
+    → IsSound entries (suc levels) from (expression_layer
     (map-DraftExpression DraftExpression Outline expression_outline x) ∷ [])
     (expression_step (map-DraftExpression DraftExpression Contents expression_contents x) ∷ [])
     → value_within (suc levels) (model_from entries)
@@ -100,7 +105,7 @@ layer-within levels entries from are below (DraftExpression-F.Parameter name) fi
     let m = parameter-meant entries from name (and_parts _ true inner.own).0 in
     let id = referred_id kind.Parameter parameter entries from name in
     let at = referred-at entries from kind.Parameter parameter name (λ one. parameter_of entries one.1) m refl in
-    let on = led-on entries from kind.Parameter parameter name
+    let on = leads-on entries from kind.Parameter parameter name
     (λ to. list_all (λ one. is_within levels entries to one) to.outlines) m refl inner.on in
     rw (out-parameter (record { 0 = id }), at)
     (parameter-within levels entries m.place m.one are below m.there m.is on)
@@ -109,7 +114,7 @@ layer-within levels entries from are below (DraftExpression-F.Operation operator
     let inner = inside entries levels from None (map expression_outline arguments)
     (has_operands operator (length (map expression_contents arguments))) None (map expression_contents arguments)
     fine in
-    let all = fine-each entries levels from expression_outline expression_contents
+    let all = sound-each entries levels from expression_outline expression_contents
     (λ e. value_within levels (model_from entries) (resolved_expression entries from e)) (below from)
     arguments inner.fine in
     rw (out-operation operator (map (resolved_expression entries from) arguments))
@@ -123,9 +128,9 @@ layer-within levels entries from are below (DraftExpression-F.Operation operator
 pub expression-within : (levels : ℕ) (entries : Entries) → AreEntries entries → ExpressionsAt entries levels
 expression-within zero entries are from e fine = absurd (some-level entries from _ [] _ fine)
 expression-within (suc levels) entries are from e fine =
-    let laid = subst (λ (o : Outline). Fine entries (suc levels) from (o ∷ []) (expression_contents e ∷ []))
+    let laid = subst (λ (o : Outline). IsSound entries (suc levels) from (o ∷ []) (expression_contents e ∷ []))
     (fold_out-DraftExpression Outline expression_layer e) fine in
-    let both = subst (λ (c : Contents). Fine entries (suc levels) from
+    let both = subst (λ (c : Contents). IsSound entries (suc levels) from
     (expression_layer (map-DraftExpression DraftExpression Outline expression_outline
     (out-DraftExpression e)) ∷ []) (c ∷ [])) (fold_out-DraftExpression Contents expression_step e) laid in
     ap (value_within (suc levels) (model_from entries))
@@ -140,6 +145,7 @@ ParametersAt entries levels = (place : ℕ) (one : Entry) → slice_get entries 
     → one.kind ≡ kind.Parameter → value_within levels (model_from entries) (parameter_of entries one).expression
     ≡ true
 
+-- each parameter is within the greatest depth
 pub parameters-within : (entries : Entries) → AreEntries entries → ParametersAt entries MAX_DEPTH
 parameters-within entries are place one there is =
     parameter-within MAX_DEPTH entries place one are (expression-within MAX_DEPTH entries are) there is

@@ -42,8 +42,8 @@ use Rattle.psa_names.specs.Ids.{is_kind, id_of, basic_id, referred_id}
 use Rattle.psa_names.specs.Resolved.{event_formula, resolved_formula, resolved_formula_layer, resolved_expression, resolved_expression_layer, resolved_test, resolved_test_layer}
 use Rattle.psa_model.specs.Formulas.{has_arity}
 use Rattle.psa_model.specs.Values.{has_operands}
-use Rattle.psa_checks.proofs.Basics.{map-map}
-use Rattle.psa_checks.proofs.Shallow.{are_shallow, inside-shallow, no-nesting, greatest-below}
+use Rattle.psa_checks.proofs.BasicEvents.{map-map}
+use Rattle.psa_checks.proofs.ElementNesting.{are_shallow, inside-shallow, no-nesting, greatest-below}
 
 -- each of some parts is nested within the levels
 pub each-below : {A : Type 0} (levels : ℕ) (contents : A → Contents) (nesting : A → ℕ)
