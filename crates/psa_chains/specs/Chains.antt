@@ -48,7 +48,8 @@ pub record IsFirstCyclic (graph : List (List Reference)) (place : ℕ) : Type 0 
 
 -- a reference leads to a place of this rank
 abbrev pub LeadsToRank : List ℕ → List Reference → ℕ → Type 0
-LeadsToRank ranks references rank = (k : ℕ) × (k < length references) × (rank_of ranks (get_or (targets references) k 0) ≡ rank)
+LeadsToRank ranks references rank = (k : ℕ) × (k < length references)
+    × (rank_of ranks (get_or (targets references) k 0) ≡ rank)
 
 abbrev pub HasNoCycle : List (List Reference) → Type 0
 HasNoCycle graph = (place : ℕ) → ¬ (IsCyclic graph place)
@@ -59,5 +60,6 @@ pub record AreComponents (graph : List (List Reference)) (ranks order : List ℕ
   pub ranks_right : AreRanks graph ranks
   pub listed : (place : ℕ) → place < length graph → Contains order place
   pub inside : (i : ℕ) → i < length order → get_or order i 0 < length graph
-  pub ordered : (i target : ℕ) → i < length order → RefersTo graph (get_or order i 0) target → Contains (take i order) target ⊎ (rank_of ranks target ≡ rank_of ranks (get_or order i 0))
+  pub ordered : (i target : ℕ) → i < length order → RefersTo graph (get_or order i 0) target
+      → Contains (take i order) target ⊎ (rank_of ranks target ≡ rank_of ranks (get_or order i 0))
   pub few : length order ≤ length graph

@@ -15,10 +15,10 @@ pub enum ChainFault {
     TooDeep(usize),
 }
 
-/// The first definition on a cycle; where none is, the first that is deeper than the limit; where all is
-/// well, `None`. `nested` says of each definition how deep its elements stand at most, 1 where all are
-/// directly in it. The time grows as the number of definitions and references. (The limit of depth and
-/// the order of the two are this project's own.)
+/// The first definition on a cycle; where none is, the first that is deeper than the limit; where
+/// all is well, `None`. `nested` says of each definition how deep its elements stand at most, 1
+/// where all are directly in it. The time grows as the number of definitions and references. (The
+/// limit of depth and the order of the two are this project's own.)
 pub fn chain_fault(
     alloc: Global,
     graph: &[Items<Reference>],

@@ -7,8 +7,8 @@ use crate::search::{Mark, Search};
 use sqlite_items::Items;
 use std::alloc::{AllocError, Global};
 
-/// The components of a graph: nodes between which chains lead both ways share a rank, and no reference
-/// leads to a node of a higher rank.
+/// The components of a graph: nodes between which chains lead both ways share a rank, and no
+/// reference leads to a node of a higher rank.
 #[derive(Debug, Drop)]
 pub struct Components {
     /// The rank of each node's component.
@@ -17,9 +17,9 @@ pub struct Components {
     pub order: Items<u32>,
 }
 
-/// The components of a graph, found along paths that are contracted where they come back to themselves
-/// (after Purdom and Munro), in a time that grows as the number of nodes and references. Nothing calls
-/// itself: the search keeps its own stack.
+/// The components of a graph, found along paths that are contracted where they come back to
+/// themselves (after Purdom and Munro), in a time that grows as the number of nodes and references.
+/// Nothing calls itself: the search keeps its own stack.
 pub fn find_components(alloc: Global, graph: &[Items<Reference>]) -> Result<Components, AllocError>
     requires stand { AllStand graph.now }
     requires few { length graph.now < 2 ^ 32 }

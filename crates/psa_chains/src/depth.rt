@@ -6,8 +6,9 @@ use crate::{Components, Reference};
 use sqlite_items::Items;
 use std::alloc::{AllocError, Global};
 
-/// The depths of the definitions of a graph without cycles. A definition is as deep as its own elements
-/// are nested, and at each reference as deep as the reference stands and the definition that it names.
+/// The depths of the definitions of a graph without cycles. A definition is as deep as its own
+/// elements are nested, and at each reference as deep as the reference stands and the definition
+/// that it names.
 pub fn depths(
     alloc: Global,
     graph: &[Items<Reference>],
@@ -32,7 +33,8 @@ pub fn depths(
 
 /// How deep a definition is, by the depths of those that it refers to.
 fn depth_of(references: &[Reference], nested: u32, depths: &[u64]) -> u64
-    requires stand { (k : ℕ) → k < length references.now → get_or (targets references.now) k 0 < length depths.now }
+    requires stand { (k : ℕ) → k < length references.now
+        → get_or (targets references.now) k 0 < length depths.now }
     requires below { AreBelow (2 ^ 64 - 2 ^ 32) depths.now }
     ensures exact { result ≡ depth_by depths.now nested references.now }
     ensures bound { (bound : ℕ) → AreBelow bound depths.now → result ≤ bound + 2 ^ 32 }
@@ -47,7 +49,8 @@ fn depth_of(references: &[Reference], nested: u32, depths: &[u64]) -> u64
 /// The first place whose depth is above the limit, `None` where none is.
 pub fn first_deeper(depths: &[u64], limit: u64) -> Option<usize>
     ensures some { IfSome result (λ place. limit < get_or depths.now place 0) }
-    ensures first { IfSome result (λ place. (earlier : ℕ) → earlier < place → get_or depths.now earlier 0 ≤ limit) }
+    ensures first { IfSome result (λ place. (earlier : ℕ) → earlier < place
+        → get_or depths.now earlier 0 ≤ limit) }
     ensures none { IfNone result ((place : ℕ) → get_or depths.now place 0 ≤ limit) }
 {
     for (place, depth) in depths.iter().enumerate() {

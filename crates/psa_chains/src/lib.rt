@@ -1,6 +1,6 @@
-//! Chains of references between definitions: which definition is the first that a chain leads back to,
-//! and how deep each is. The definitions are numbers, from 0, and the graph is a list: at each place what
-//! the definition there refers to.
+//! Chains of references between definitions: which definition is the first that a chain leads back
+//! to, and how deep each is. The definitions are numbers, from 0, and the graph is a list: at each
+//! place what the definition there refers to.
 #![tactic(auto)]
 
 mod chain;

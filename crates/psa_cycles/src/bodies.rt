@@ -12,8 +12,8 @@ use psa_model::{
 };
 use psa_text::OutOfMemory;
 
-/// Adds the elements of a body inside so many others: none, or the element of an event tree's initial
-/// state.
+/// Adds the elements of a body inside so many others: none, or the element of an event tree's
+/// initial state.
 pub fn push_body(levels: &mut Levels, body: &DraftBody, around: u32) -> Result<(), OutOfMemory>
     requires few { around ≤ 1 }
     requires room { HasRoom around (body_contents body.now) }
@@ -67,8 +67,8 @@ fn push_link(
     }
 }
 
-/// Adds the elements of a branch in which at most `depth` branches stand in one another: it calls itself
-/// so deep at most.
+/// Adds the elements of a branch in which at most `depth` branches stand in one another: it calls
+/// itself so deep at most.
 #[cycle(branching)]
 fn push_branch(
     levels: &mut Levels,
@@ -98,7 +98,8 @@ fn push_end(
     requires { HasRoom around
         (end_contents (λ below. branch_contents depth below) (out-DraftBranchEnd end.now)) }
     ensures { OnOk result (levels.new ≡ with_outline around
-        (end_outline (λ below. branch_outlines depth below) (out-DraftBranchEnd end.now)) levels.old) }
+        (end_outline (λ below. branch_outlines depth below) (out-DraftBranchEnd end.now))
+        levels.old) }
 {
     levels.push_naming(around + 1)?;
     match end {

@@ -13,10 +13,11 @@ use psa_names::{CheckError, Found};
 use psa_text::{OutOfMemory, Text};
 use std::alloc::Global;
 
-/// Checks that no definition of a draft reaches itself by its references, and then that none is deeper
-/// than `MAX_DEPTH`, over what was found of its names. The fault is that of the first definition on a
-/// cycle in document order (not of one that only leads to a cycle), else of the first that is too deep.
-/// The time grows as the size of the draft. (The checks and their order are this project's own.)
+/// Checks that no definition of a draft reaches itself by its references, and then that none is
+/// deeper than `MAX_DEPTH`, over what was found of its names. The fault is that of the first
+/// definition on a cycle in document order (not of one that only leads to a cycle), else of the
+/// first that is too deep. The time grows as the size of the draft. (The checks and their order are
+/// this project's own.)
 pub fn check_chains(alloc: Global, draft: &Draft, found: &Found) -> Result<(), CheckError>
     requires draft { IsDraft draft.now }
     requires names { HasNames draft.now }
@@ -47,7 +48,8 @@ fn fault_of(
     definition: &DraftDefinition,
     kind: FaultKind,
 ) -> Result<ModelFault, OutOfMemory>
-    ensures { IfOk result (λ fault. fault ≡ (placed_fault_of kind (entry_of definition.now)).fault) }
+    ensures { IfOk result
+        (λ fault. fault ≡ (placed_fault_of kind (entry_of definition.now)).fault) }
 {
     Ok(ModelFault {
         kind,

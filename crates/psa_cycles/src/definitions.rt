@@ -10,8 +10,8 @@ use crate::levels::Levels;
 use psa_model::{DefinitionKind, DraftBody, DraftDefinition, DraftReference};
 use psa_text::OutOfMemory;
 
-/// Adds the elements of a definition: of a group first its members that are paths; of an event tree its
-/// initial state, with the contents inside.
+/// Adds the elements of a definition: of a group first its members that are paths; of an event tree
+/// its initial state, with the contents inside.
 pub fn push_definition(levels: &mut Levels, definition: &DraftDefinition) -> Result<(), OutOfMemory>
     requires { HasRoom 1 (body_contents definition.now.body) }
     ensures { OnOk result (levels.new

@@ -14,8 +14,8 @@ use psa_text::{Items, OutOfMemory};
 use sqlite_items::at;
 use std::alloc::Global;
 
-/// Which definitions each definition refers to, and how deep its elements are nested, by its place in the
-/// draft. Only definitions that chains lead through count.
+/// Which definitions each definition refers to, and how deep its elements are nested, by its place
+/// in the draft. Only definitions that chains lead through count.
 #[derive(Drop)]
 pub struct Graph {
     pub rows: Items<Items<Reference>>,
@@ -74,7 +74,8 @@ fn row_of(
 ) -> Result<Items<Reference>, OutOfMemory>
     requires { length levels.now ≡ length senses.now }
     ensures { IfOk result (λ row. row ≡ (if is_chained_kind kind
-        then steps levels.now (map (target_of (map entry_of definitions.now)) senses.now) else [])) }
+        then steps levels.now (map (target_of (map entry_of definitions.now)) senses.now)
+        else [])) }
 {
     let mut row = Items::new(alloc);
     if !is_chained(kind) {

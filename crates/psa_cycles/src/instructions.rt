@@ -7,7 +7,8 @@ use crate::levels::{Levels, push_formula, push_test};
 use psa_model::DraftInstruction;
 use psa_text::OutOfMemory;
 
-/// Adds the elements of instructions inside so many others. This calls itself as deep as a body nests.
+/// Adds the elements of instructions inside so many others. This calls itself as deep as a body
+/// nests.
 #[cycle(instructing)]
 pub fn push_instructions(
     levels: &mut Levels,

@@ -7,8 +7,8 @@ use psa_model::{DraftExpression, DraftFormula, DraftTest};
 use psa_text::{Items, OutOfMemory};
 use std::alloc::Global;
 
-/// The levels of references in the order of the document, and the greatest level of an element, both from
-/// 1 for what stands directly in a definition.
+/// The levels of references in the order of the document, and the greatest level of an element,
+/// both from 1 for what stands directly in a definition.
 #[derive(Drop)]
 pub struct Levels {
     pub references: Items<u32>,
@@ -42,15 +42,16 @@ impl Levels {
     }
 }
 
-/// Adds the elements of a formula inside so many others. A body nests at most 64 deep, and this calls
-/// itself as deep.
+/// Adds the elements of a formula inside so many others. A body nests at most 64 deep, and this
+/// calls itself as deep.
 pub fn push_formula(
     levels: &mut Levels,
     formula: &DraftFormula,
     around: u32,
 ) -> Result<(), OutOfMemory>
     requires { HasRoom around (formula_contents formula.now) }
-    ensures { OnOk result (levels.new ≡ with_outline around (formula_outline formula.now) levels.old) }
+    ensures { OnOk result
+        (levels.new ≡ with_outline around (formula_outline formula.now) levels.old) }
 {
     match formula {
         DraftFormula::Event(_, _) => levels.push_naming(around + 1),
@@ -68,7 +69,8 @@ pub fn push_formula(
     }
 }
 
-/// Adds the elements of an expression inside so many others. This calls itself as deep as a body nests.
+/// Adds the elements of an expression inside so many others. This calls itself as deep as a body
+/// nests.
 pub fn push_expression(
     levels: &mut Levels,
     expression: &DraftExpression,
@@ -118,7 +120,8 @@ pub fn push_test(levels: &mut Levels, test: &DraftTest, around: u32) -> Result<(
 fn push_tests(levels: &mut Levels, tests: &[DraftTest], around: u32) -> Result<(), OutOfMemory>
     requires { HasRoom (around + 1) (together (map test_contents tests.now)) }
     ensures { OnOk result (levels.new
-        ≡ with_outlines (around + 1) (joined (map test_outline tests.now)) (added levels.old [] (around + 1))) }
+        ≡ with_outlines (around + 1) (joined (map test_outline tests.now))
+        (added levels.old [] (around + 1))) }
 {
     levels.push_plain(around + 1);
     for test in tests {

@@ -1,5 +1,5 @@
-//! The checks of cycles and depths of a draft, over what was found of its names: no definition reaches
-//! itself by its references, and none is deeper than `MAX_DEPTH`.
+//! The checks of cycles and depths of a draft, over what was found of its names: no definition
+//! reaches itself by its references, and none is deeper than `MAX_DEPTH`.
 #![tactic(auto)]
 
 mod bodies;
