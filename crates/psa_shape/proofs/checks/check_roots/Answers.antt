@@ -9,4 +9,5 @@ pub returns-in_err-check_root : goal.returns-in_err-check_root
 returns-in_err-check_root c =
     let p = err_from_is_err_and c.from_residual.result c.from_residual.ensures.1 in
     rw (p.1, p.2) (subst (λ (l : List ModelFault). Finds l (Err c.in_err-check_root.field-0.0)) c.loop-file.invariant
-    (root-found c.args.docs.now c.loop-file.file c.index-docs-file.result c.loop-file-test.true c.index-docs-file.is c.in_err-check_root.field-0.0 c.in_err-check_root.ensures))
+    (root-found c.args.docs.now c.loop-file.file c.index-docs-file.result c.loop-file-test.true c.index-docs-file.is
+    c.in_err-check_root.field-0.0 c.in_err-check_root.ensures))

@@ -6,4 +6,5 @@ use Rattle.psa_shape.proofs.contents.behind_part.Given as goal
 
 abbrev pub invariant-loop-place : goal.invariant-loop-place
 invariant-loop-place l =
-    definition.behind_part (seen_part l.part) (counted (drop l.place l.children)) ≡ definition.behind_part (seen_part l.part) (counted l.children)
+    definition.behind_part (seen_part l.part) (counted (drop l.place l.children)) ≡ definition.behind_part
+    (seen_part l.part) (counted l.children)

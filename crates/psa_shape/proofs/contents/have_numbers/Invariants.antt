@@ -7,4 +7,5 @@ use Rattle.psa_shape.proofs.contents.have_numbers.Given as goal
 
 abbrev pub invariant-loop-part : goal.invariant-loop-part
 invariant-loop-part l =
-    list_all (has_number (counted l.children)) (map seen_part (drop l.part-index l.parts)) ≡ list_all (has_number (counted l.children)) (map seen_part l.parts)
+    list_all (has_number (counted l.children)) (map seen_part (drop l.part-index l.parts)) ≡ list_all
+    (has_number (counted l.children)) (map seen_part l.parts)

@@ -8,5 +8,6 @@ use Rattle.psa_shape.proofs.contents.is_in_part.Goals as goal
 
 pub returns : goal.returns
 returns c =
-    c.is_some.ensures ∙ is_some-found c.row_among.result c.as_str.result.now (rows_of c.args.part.rows) c.row_among.ensures
+    c.is_some.ensures ∙ is_some-found c.row_among.result c.as_str.result.now
+    (rows_of c.args.part.rows) c.row_among.ensures
     ∙ ap (λ (t : Text). list_any (has_tag t) (rows_of c.args.part.rows)) c.as_str.ensures

@@ -10,5 +10,6 @@ use Rattle.psa_shape.proofs.contents.stand_in_order.Goals as goal
 pub returns : goal.returns
 returns c =
     c.are_labels.ensures ∙ sym (stand_in_order-labels c.loop-part.rest.now)
-    ∙ sym (at_drop_all (λ (ps : List Part). definition.stand_in_order (map seen_part ps) (counted c.loop-part.rest.now)) c.args.parts.now c.loop-part.part-index c.loop-part-test.false)
+    ∙ sym (at_drop_all (λ (ps : List Part). definition.stand_in_order (map seen_part ps)
+    (counted c.loop-part.rest.now)) c.args.parts.now c.loop-part.part-index c.loop-part-test.false)
     ∙ c.loop-part.invariant

@@ -6,4 +6,5 @@ use Rattle.psa_shape.proofs.contents.stand_in_order.Given as goal
 
 abbrev pub invariant-loop-part : goal.invariant-loop-part
 invariant-loop-part l =
-    definition.stand_in_order (map seen_part (drop l.part-index l.parts)) (counted l.rest) ≡ definition.stand_in_order (map seen_part l.parts) (counted l.children)
+    definition.stand_in_order (map seen_part (drop l.part-index l.parts)) (counted l.rest) ≡ definition.stand_in_order
+    (map seen_part l.parts) (counted l.children)
