@@ -1,0 +1,6 @@
+pub mod Starts
+pub mod Sayings
+pub mod Rows
+pub mod Bodies
+pub mod Groups
+pub mod Events
