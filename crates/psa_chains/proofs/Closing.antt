@@ -24,6 +24,7 @@ stack-inside g s h p low =
       | inr past ↦ absurd (new-open _ _ (get_or_past s.marks (node_at s p) New past) (h.there p low))
     ]
 
+-- nodes behind some stand where all do
 pub drop-inside : (nodes : List ℕ) (from n : ℕ) → AllInside nodes n → AllInside (drop from nodes) n
 drop-inside nodes from n h k low =
     subst (λ x. x < n) (sym (get_or-drop from nodes k 0)) (h (from + k) (omega (arith, length-drop from nodes)))
@@ -63,6 +64,7 @@ module _ (g : List (List Reference)) (s : Search) (b : Block) (rest : List Block
         | inr not ↦ inr ((λ l. not.0 (l.0 - b.nodes, omega (arith, l.1, l.2, length-drop b.nodes s.stack), get_or-drop b.nodes s.stack (l.0 - b.nodes) 0 ∙ ap (λ i. node_at s i) (back-to b.nodes l.0 l.1) ∙ l.3)), not.1)
       ]
 
+  -- the stack ends where the block began
   pub size-left : length left.stack ≡ b.nodes
   size-left = length-take-le b.nodes s.stack (omega arith)
 
@@ -91,6 +93,7 @@ module _ (g : List (List Reference)) (s : Search) (b : Block) (rest : List Block
         | inr k ↦ absurd (k.0 (p, low, (base.placed x p is).0, (base.placed x p is).1))
       ]
 
+  -- what was seen stays seen where a block is left
   pub kept-left : KeepsSeen s left
   kept-left x is =
       elim (cases x) [
@@ -142,6 +145,7 @@ module _ (g : List (List Reference)) (s : Search) (b : Block) (rest : List Block
   size-order : length left.order ≡ length s.order + (length s.stack - b.nodes)
   size-order = length-append s.order (reverse (drop b.nodes s.stack)) ∙ ap (λ n. length s.order + n) (length-reverse (drop b.nodes s.stack) ∙ length-drop b.nodes s.stack)
 
+  -- the nodes of a block were seen
   pub all-seen : AllSeen (drop b.nodes s.stack) s.marks
   all-seen k low = subst (λ x. is_new (mark_at s.marks x) ≡ false) (sym (get_or-drop b.nodes s.stack k 0)) (ap is_new (base.there (b.nodes + k) (omega (arith, length-drop b.nodes s.stack))))
 
@@ -234,6 +238,7 @@ module _ (g : List (List Reference)) (s : Search) (b : Block) (rest : List Block
     reached = λ i low high. leads-same g _ _ _ _ (sym (node-left o.nodes below)) refl (is.reached i low high);
   }
 
+-- the search goes on where a block in which nothing waits is left
 pub search-left : (g : List (List Reference)) (s : Search) (b : Block) (older rest : List Block) → reverse s.blocks ≡ b ∷ older → reverse rest ≡ older → length s.waiting ≤ b.waiting → IsSearch g s → IsSearch g (with_blocks (closed_at b s) rest)
 search-left g s b older rest newest remain done h =
     let blocks = subst (λ bs. AreBlocks g s (length s.stack) (length s.waiting) bs) newest h.blocks in
@@ -244,6 +249,7 @@ search-left g s b older rest newest remain done h =
           (blocks-kept g s _ b.nodes b.waiting older (λ p low. node-left g s b rest h.base blocks.0 p low) (λ o low less is. block-left g s b rest h.base blocks.0 o low is) blocks.4));
     }
 
+-- what was seen then stays seen
 pub seen-left : (g : List (List Reference)) (s : Search) (b : Block) (older rest : List Block) → reverse s.blocks ≡ b ∷ older → IsSearch g s → KeepsSeen s (with_blocks (closed_at b s) rest)
 seen-left g s b older rest newest h =
     let blocks = subst (λ bs. AreBlocks g s (length s.stack) (length s.waiting) bs) newest h.blocks in

@@ -73,6 +73,7 @@ module _ (g : List (List Reference)) (nested order depths : List ℕ) (i : ℕ) 
         | inr less ↦ (there.0, omega (arith, length-take i order), get_or-take i order there.0 q (omega arith) ∙ get_or_default order there.0 q 0 within ∙ at)
       ]
 
+  -- the depth of one more place of the order is right, and those before stay right
   pub right-more : AreRight g nested more (take (i + 1) order)
   right-more q there =
       elim (cases_eq q node) [
@@ -81,6 +82,7 @@ module _ (g : List (List Reference)) (nested order depths : List ℕ) (i : ℕ) 
         | inr other ↦ (let front = front-other q there other in front-same q front ∙ right q front ∙ same-row q there)
       ]
 
+-- one more depth raises the bound by one level
 pub below-more : (depths : List ℕ) (i place depth bound : ℕ) → AreBelow bound depths → depth ≤ bound + 2 ^ 32 → AreBelow (bound + 2 ^ 32) (set depths place depth)
 below-more depths i place depth bound below fits q =
     elim (cases_lt place (length depths)) [
@@ -91,6 +93,7 @@ below-more depths i place depth bound below fits q =
       | inr past ↦ subst (λ xs. get_or xs q 0 ≤ bound + 2 ^ 32) (sym (set_past depths place depth past)) (omega (arith, below q))
     ]
 
+-- at the end of the order all depths are right
 pub right-all : (g : List (List Reference)) (ranks order nested depths : List ℕ) (i : ℕ) → AreComponents g ranks order → length depths ≡ length g → length order ≤ i → AreRight g nested depths (take i order) → AreDepths g nested depths
 right-all g ranks order nested depths i are all past right = record {
   all = all;

@@ -38,6 +38,7 @@ module _ (g : List (List Reference)) (s : Search) (node : ℕ) (inside' : node <
   stays-open : (x p : ℕ) → mark_of s x ≡ Open p → mark_of (entered g node s) x ≡ Open p
   stays-open x p is = stays x (Open p) (λ e. cc) is
 
+  -- what was seen stays seen where a node is entered
   pub kept-entered : KeepsSeen s (entered g node s)
   kept-entered x is =
       elim (set-cases s.marks node (Open (length s.stack)) x inside') [
@@ -90,6 +91,7 @@ module _ (g : List (List Reference)) (s : Search) (node : ℕ) (inside' : node <
       let was = h.falls x rank target (was-closed x rank is) refers in
       (was.0, stays-closed target was.0 was.1, was.2)
 
+  -- marks, stack and order where a node is entered
   pub base-entered : AllStand g → IsBase g s → ((p : ℕ) → p < length s.stack → Leads g (node_at s p) node) → IsBase g (entered g node s)
   base-entered stand h leads = record {
     all = length-set s.marks node _ ∙ h.all;
@@ -125,6 +127,7 @@ module _ (g : List (List Reference)) (s : Search) (node : ℕ) (inside' : node <
     reached = λ i low high. leads-same g _ _ _ _ (sym (node-top (length s.stack) refl)) refl (leads-one g node _ (waits-new i low high));
   }
 
+  -- the blocks where a node is entered
   pub blocks-entered : AreBlocks g (entered g node s) (length s.stack) (length s.waiting) (reverse s.blocks) → AreBlocks g (entered g node s) (length (entered g node s).stack) (length (entered g node s).waiting) (reverse (entered g node s).blocks)
   blocks-entered h = subst (λ bs. AreBlocks g (entered g node s) (length (entered g node s).stack) (length (entered g node s).waiting) bs) (sym (reverse-append s.blocks (own ∷ []))) (
     omega (arith, size-entered),
@@ -180,6 +183,7 @@ module _ (g : List (List Reference)) (s : Search) (rest : List ℕ) (t : ℕ) (s
     ]);
   }
 
+  -- the search goes on where a node that waits is entered
   pub search-entered : (b : Block) (older : List Block) → AllStand g → b.waiting < length s.waiting → reverse s.blocks ≡ b ∷ older → IsSearch g s → IsSearch g after
   search-entered b older stand room newest h =
       let size : length s.waiting ≡ length rest + 1 = ap length split ∙ length_push rest t in

@@ -10,25 +10,32 @@ use Rattle.psa_chains.specs.Searching.{mark_at, marked}
 pub new-open : (m : Mark) (p : ℕ) → m ≡ New → m ≡ Open p → ⊥
 new-open m p a b = let e : New ≡ Open p = sym a ∙ b in cc
 
+-- a node that was not seen was not left
 pub new-closed : (m : Mark) (p : ℕ) → m ≡ New → m ≡ Closed p → ⊥
 new-closed m p a b = let e : New ≡ Closed p = sym a ∙ b in cc
 
+-- a node on the stack was not left
 pub open-closed : (m : Mark) (p q : ℕ) → m ≡ Open p → m ≡ Closed q → ⊥
 open-closed m p q a b = let e : Open p ≡ Closed q = sym a ∙ b in cc
 
+-- a node stands at one place of the stack
 pub open-same : (m : Mark) (p q : ℕ) → m ≡ Open p → m ≡ Open q → p ≡ q
 open-same m p q a b = let e : Open p ≡ Open q = sym a ∙ b in cc
 
+-- a node has one rank
 pub closed-same : (m : Mark) (p q : ℕ) → m ≡ Closed p → m ≡ Closed q → p ≡ q
 closed-same m p q a b = let e : Closed p ≡ Closed q = sym a ∙ b in cc
 
+-- marks that are set keep their number
 pub marked-length : (m : Mark) (nodes : List ℕ) (marks : List Mark) → length (marked m nodes marks) ≡ length marks
 marked-length m [] marks = refl
 marked-length m (n ∷ nodes) marks = length-set (marked m nodes marks) n m ∙ marked-length m nodes marks
 
+-- the mark that was set
 pub set-here : (marks : List Mark) (n : ℕ) (m : Mark) → n < length marks → mark_at (set marks n m) n ≡ m
 set-here marks n m inside = get_or-set_same marks n m New inside
 
+-- the marks of other nodes stay
 pub set-other : (marks : List Mark) (n : ℕ) (m : Mark) (node : ℕ) → node ≢ n → mark_at (set marks n m) node ≡ mark_at marks node
 set-other marks n m node other = get_or-set_other marks n node m New other
 

@@ -23,6 +23,7 @@ weigh-blank : (g : List (List Reference)) → weigh each_one (replicate (length 
 weigh-blank [] = refl
 weigh-blank (r ∷ g) = let rest = weigh-blank g in omega arith
 
+-- a search begins with no node seen
 pub search-fresh : (g : List (List Reference)) → IsSearch g (fresh (length g))
 search-fresh g = record {
   base = record {
@@ -63,6 +64,7 @@ all-closed g s h none seen node low =
     let empty : length s.stack ≡ 0 = blocks-none g s none h.blocks in
     closed-of (mark_of s node) (seen node (omega (arith, h.base.all))) (λ p mark. absurd (omega (arith, (h.base.placed node p mark).0)))
 
+-- the ranks and the order at the end are those of components
 pub ranks-right : (g : List (List Reference)) (s : Search) (ranks : List ℕ) → AllStand g → IsSearch g s → RanksAre s.marks ranks → AreComponents g ranks s.order
 ranks-right g s ranks stand h are =
     let closed : (node : ℕ) → node < length g → mark_of s node ≡ Closed (rank_of ranks node) = λ node low. are.each node (omega (arith, h.base.all)) in

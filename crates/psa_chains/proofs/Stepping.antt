@@ -13,6 +13,7 @@ use Rattle.psa_chains.proofs.Steps.{waiting_on, with_blocks}
 use Rattle.psa_chains.proofs.Entering.{search-entered, kept-entered}
 use Rattle.psa_chains.proofs.Closing.{search-left, seen-left, stack-inside, drop-inside, all-seen}
 
+-- what follows where all went well
 pub on-ok : {A E : Type 0} (r : Result A E) (P Q : Type 0) → (P → Q) → OnOk r P → OnOk r Q
 on-ok (Ok x) P Q f h = f h
 on-ok (Err e) P Q f h = tt
@@ -22,20 +23,24 @@ pub popped : {A : Type 0} (r : Option A) (old new : List A) → MatchOption r ((
 popped None old new h some = absurd (omega (arith, ap length h.0))
 popped (Some x) old new h some = (x, h)
 
+-- where a block is newest there is one
 pub newest-some : (blocks : List Block) (b : Block) (older : List Block) → reverse blocks ≡ b ∷ older → 0 < length blocks
 newest-some [] b older h = absurd (cc)
 newest-some (x ∷ blocks) b older h = omega arith
 
+-- the blocks without the newest
 pub remaining : (blocks rest older : List Block) (b last : Block) → reverse blocks ≡ b ∷ older → blocks ≡ rest ++ last ∷ [] → reverse rest ≡ older
 remaining blocks rest older b last newest split =
     let same : last ∷ reverse rest ≡ b ∷ older = sym (reverse-append rest (last ∷ [])) ∙ ap reverse (sym split) ∙ newest in
     cc
 
+-- a step: the search goes on, less work is left, and what was seen stays seen
 pub record Stepped (g : List (List Reference)) (s t : Search) : Type 0 where
   pub search : IsSearch g t
   pub less : work g t < work g s
   pub kept : KeepsSeen s t
 
+-- the step that leaves a block
 pub step-left : (g : List (List Reference)) (s t : Search) (b last : Block) (older rest : List Block) → IsSearch g s → reverse s.blocks ≡ b ∷ older → length s.waiting ≤ b.waiting → t ≡ closed_at b s → t.blocks ≡ rest ++ last ∷ [] → Stepped g s (with_blocks t rest)
 step-left g s t b last older rest h newest done is split =
     let own : s.blocks ≡ rest ++ last ∷ [] = sym (ap (λ x. x.blocks) is) ∙ split in
@@ -49,6 +54,7 @@ step-left g s t b last older rest h newest done is split =
       kept = seen-left g s b older rest newest h;
     })
 
+-- the step that enters a node
 pub step-entered : (g : List (List Reference)) (s n : Search) (b : Block) (older : List Block) (rest : List ℕ) (t : ℕ) → AllStand g → IsSearch g s → reverse s.blocks ≡ b ∷ older → b.waiting < length s.waiting → s.waiting ≡ rest ++ t ∷ [] → mark_of s t ≡ New → n ≡ entered g t (waiting_on s rest) → Stepped g s n
 step-entered g s n b older rest t stand h newest room split new is =
     let size : length s.waiting ≡ length rest + 1 = ap length split ∙ length_push rest t in
@@ -78,6 +84,7 @@ newest-at blocks b h =
     ∙ sym (take_more blocks (length blocks - 1) b low) ∙ take_all (length blocks - 1 + 1) blocks (omega arith) in
     (reverse (take (length blocks - 1) blocks), ap reverse (sym split) ∙ reverse-append (take (length blocks - 1) blocks) (b ∷ []))
 
+-- without a newest block there is none
 pub none-left : (blocks : List Block) → slice_get blocks (length blocks - 1) ≡ None → blocks ≡ []
 none-left [] h = refl
 none-left (b ∷ blocks) h =

@@ -62,6 +62,7 @@ block-past g s b o rest t split past below is = record {
       leads-same g _ _ _ _ refl (ap (λ xs. get_or xs i 0) split ∙ get_or_append_left rest (t ∷ []) 0 i high) (is.reached i low (omega arith));
 }
 
+-- marks, stack and order do not depend on the last that waits
 pub base-waiting : (g : List (List Reference)) (s : Search) (rest : List ℕ) (t : ℕ) → s.waiting ≡ rest ++ t ∷ [] → IsBase g s → IsBase g (waiting_on s rest)
 base-waiting g s rest t split h =
     let size : length s.waiting ≡ length rest + 1 = ap length split ∙ length_push rest t in
@@ -105,12 +106,14 @@ explored-blocks s rest b t (closed rank m) = closed rank m
 explored-blocks s rest b t (inside place m low) = inside place m low
 explored-blocks s rest b t (waits i low high at) = waits i low high at
 
+-- what holds of one block does not depend on the others
 pub block-blocks : (g : List (List Reference)) (s : Search) (rest : List Block) (b : Block) → IsBlock g s b → IsBlock g (with_blocks s rest) b
 block-blocks g s rest b is = record {
   explored = λ p t low high refers. explored-blocks s rest b t (is.explored p t low high refers);
   reached = is.reached;
 }
 
+-- marks, stack and order do not depend on the blocks
 pub base-blocks : (g : List (List Reference)) (s : Search) (rest : List Block) → IsBase g s → IsBase g (with_blocks s rest)
 base-blocks g s rest h = record {
   all = h.all;
@@ -146,6 +149,7 @@ blocks-joined g s b (o ∷ older) place base below leads h =
       h.4.4,
     )
 
+-- the search goes on where the newest block is joined with the one before
 pub search-joined : (g : List (List Reference)) (s : Search) (b : Block) (older rest : List Block) (t place : ℕ) → reverse s.blocks ≡ b ∷ older → reverse rest ≡ older → b.waiting < length s.waiting → get_or s.waiting (length s.waiting - 1) 0 ≡ t → mark_of s t ≡ Open place → place < b.nodes → IsSearch g s → IsSearch g (with_blocks s rest)
 search-joined g s b older rest t place newest left room last mark low h =
     let blocks = subst (λ bs. AreBlocks g s (length s.stack) (length s.waiting) bs) newest h.blocks in

@@ -16,6 +16,7 @@ entered-work f (x ∷ marks) (r ∷ rows) (suc i) m seen inside same new =
     let rest = entered-work f marks rows i m seen (omega arith) (omega arith) new in
     omega arith
 
+-- the mark of a node that was seen weighs nothing
 pub seen-work : (f : List Reference → ℕ) (marks : List Mark) (rows : List (List Reference)) (i : ℕ) (m : Mark) → is_new m ≡ false → is_new (mark_at marks i) ≡ false → weigh f (set marks i m) rows ≡ weigh f marks rows
 seen-work f [] rows i m seen old = refl
 seen-work f (x ∷ marks) [] zero m seen old = refl
@@ -26,6 +27,7 @@ seen-work f (x ∷ marks) (r ∷ rows) (suc i) m seen old = ap (λ n. cond (is_n
 abbrev pub AllSeen : List ℕ → List Mark → Type 0
 AllSeen nodes marks = (k : ℕ) → k < length nodes → is_new (mark_at marks (get_or nodes k 0)) ≡ false
 
+-- the marks of nodes that were seen weigh nothing
 pub marked-work : (f : List Reference → ℕ) (m : Mark) (nodes : List ℕ) (marks : List Mark) (rows : List (List Reference)) → is_new m ≡ false → AllInside nodes (length marks) → AllSeen nodes marks → weigh f (marked m nodes marks) rows ≡ weigh f marks rows
 marked-work f m [] marks rows seen inside old = refl
 marked-work f m (n ∷ nodes) marks rows seen inside old =

@@ -16,6 +16,7 @@ max-assoc a b c = omega arith
 max-zero : (a : ℕ) → max a 0 ≡ a
 max-zero a = omega arith
 
+-- equal additions
 pub same-added : (s : Levels) (ls ms : List ℕ) (d e : ℕ) → ls ≡ ms → d ≡ e → added s ls d ≡ added s ms e
 same-added s ls ms d e p q = rw (p, q) refl
 
@@ -47,6 +48,7 @@ pushed-cons a one others s t u first second =
     second ∙ ap (with_outlines a (joined others)) first
     ∙ added-twice s (levels_in a one) (levels_in_all a (joined others)) (deepest_in a one) (deepest_in_all a (joined others))
 
+-- one element alone
 pub pushed-one : (a : ℕ) (one : Outline) (s t : Levels) → t ≡ with_outline a one s → t ≡ with_outlines a (joined (one ∷ [])) s
 pushed-one a one s t first = pushed-cons a one [] s t t first (pushed-none a t)
 

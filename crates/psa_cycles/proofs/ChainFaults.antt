@@ -96,11 +96,13 @@ entries-in-order draft is = subst InOrder (sym (positions-same draft.definitions
 
 -- ---- cycles
 
+-- without a cycle in the graph the check of cycles has no fault
 pub no-cycle : (draft : Draft) → HasNoCycle (graph_by (entries_of draft)) → earliest (cycles (entries_of draft)) ≡ None
 no-cycle draft acyclic =
     none-fails (λ (x : ℕ × Entry). fault_of fault.Cycle x.1) (λ x. leads (length (entries_of draft)) (entries_of draft) x.0 x.0) (enumerate_from 0 (entries_of draft))
     (λ j x there. acyclic-leads (entries_of draft) x.0 (acyclic x.0))
 
+-- its fault is that of the first place on a cycle
 pub first-cycle : (draft : Draft) → IsDraft draft → (place : ℕ) (one : Entry) → slice_get (entries_of draft) place ≡ Some one → IsFirstCyclic (graph_by (entries_of draft)) place → earliest (cycles (entries_of draft)) ≡ Some (fault_of fault.Cycle one)
 first-cycle draft is place one at cyclic =
     first-fails (λ (x : ℕ × Entry). fault_of fault.Cycle x.1) (λ x. leads (length (entries_of draft)) (entries_of draft) x.0 x.0) (enumerate_from 0 (entries_of draft))
@@ -130,11 +132,13 @@ above d deep = ap not (lt-leb d MAX_DEPTH deep)
 within : (d : ℕ) → d ≤ MAX_DEPTH → not (nat_le d MAX_DEPTH) ≡ false
 within d low = ap not (le-leb d MAX_DEPTH low)
 
+-- where all depths are within the limit the check of depths has no fault
 pub none-deeper : (draft : Draft) → IsDraft draft → AreShallow MAX_DEPTH (graph_by (entries_of draft)) (nested_by (entries_of draft)) → earliest (too_deep (entries_of draft)) ≡ None
 none-deeper draft is shallow =
     none-fails (fault_of fault.TooDeep) (λ one. is_chained one.kind && not (is_within_all MAX_DEPTH (entries_of draft) one)) (entries_of draft)
     (λ j one there. deeper-is draft shallow.depths is shallow.are j one there ∙ within (get_or shallow.depths j 0) (shallow.each j))
 
+-- its fault is that of the first place that is deeper
 pub first-deeper : (draft : Draft) → IsDraft draft → (place : ℕ) (one : Entry) → slice_get (entries_of draft) place ≡ Some one → IsFirstDeeper MAX_DEPTH (graph_by (entries_of draft)) (nested_by (entries_of draft)) place → earliest (too_deep (entries_of draft)) ≡ Some (fault_of fault.TooDeep one)
 first-deeper draft is place one at deeper =
     first-fails (fault_of fault.TooDeep) (λ one. is_chained one.kind && not (is_within_all MAX_DEPTH (entries_of draft) one)) (entries_of draft)
@@ -147,14 +151,17 @@ first-deeper draft is place one at deeper =
 names-fault : (draft : Draft) (cyclic deep : Option PlacedFault) → HasNames draft → earliest (cycles (entries_of draft)) ≡ cyclic → earliest (too_deep (entries_of draft)) ≡ deep → name_fault draft ≡ option_map (λ (one : PlacedFault). one.fault) (or_next cyclic (λ u. deep))
 names-fault draft cyclic deep names p q = rw (names.no_duplicate, names.no_bad_reference, names.no_bad_group, p, q) refl
 
+-- no fault of names
 pub no-fault : (draft : Draft) → IsDraft draft → HasNames draft → HasNoCycle (graph_by (entries_of draft)) × AreShallow MAX_DEPTH (graph_by (entries_of draft)) (nested_by (entries_of draft)) → name_fault draft ≡ None
 no-fault draft is names both = names-fault draft None None names (no-cycle draft both.0) (none-deeper draft is both.1)
 
+-- the first fault of names is a cycle
 pub cycle-fault : (draft : Draft) → IsDraft draft → HasNames draft → (place : ℕ) (d : DraftDefinition) → slice_get draft.definitions place ≡ Some d → IsFirstCyclic (graph_by (entries_of draft)) place → name_fault draft ≡ Some (fault_of fault.Cycle (entry_of d)).fault
 cycle-fault draft is names place d at cyclic =
     names-fault draft (Some (fault_of fault.Cycle (entry_of d))) (earliest (too_deep (entries_of draft))) names
     (first-cycle draft is place (entry_of d) (slice_get-map entry_of draft.definitions place ∙ ap (option_map entry_of) at) cyclic) refl
 
+-- the first fault of names is a depth
 pub deep-fault : (draft : Draft) → IsDraft draft → HasNames draft → (place : ℕ) (d : DraftDefinition) → slice_get draft.definitions place ≡ Some d → HasNoCycle (graph_by (entries_of draft)) × IsFirstDeeper MAX_DEPTH (graph_by (entries_of draft)) (nested_by (entries_of draft)) place → name_fault draft ≡ Some (fault_of fault.TooDeep (entry_of d)).fault
 deep-fault draft is names place d at both =
     names-fault draft None (Some (fault_of fault.TooDeep (entry_of d))) names (no-cycle draft both.0)
@@ -174,25 +181,30 @@ said draft limit rows nested answer its graph is h =
     (subst (λ ns. IsAnswer MAX_DEPTH (graph_by (entries_of draft)) ns answer) graph.nested_are
     (subst (λ rs. IsAnswer MAX_DEPTH rs nested answer) graph.rows_are (subst (λ n. IsAnswer n rows nested answer) graph.limit_is h)))
 
+-- each reference of the graph leads to a definition
 pub stands : (draft : Draft) (rows : List (List Reference)) → rows ≡ graph_by (entries_of draft) → AllStand rows
 stands draft rows is = subst AllStand (sym is) (graph-stands (entries_of draft))
 
+-- places of the graph are numbers of 32 bits
 pub few : (draft : Draft) (rows : List (List Reference)) → IsDraft draft → rows ≡ graph_by (entries_of draft) → length rows < 2 ^ 32
 few draft rows is same =
     let size : length rows ≡ length draft.definitions = ap length same ∙ length-map (entries_of draft) (row_by (entries_of draft)) ∙ length-map draft.definitions entry_of in
     let all = is.few in
     omega arith
 
+-- each definition has its nesting
 pub as-many : (draft : Draft) (rows : List (List Reference)) (nested : List ℕ) → rows ≡ graph_by (entries_of draft) → nested ≡ nested_by (entries_of draft) → length nested ≡ length rows
 as-many draft rows nested p q =
     ap length q ∙ length-map (entries_of draft) nesting_by ∙ sym (ap length p ∙ length-map (entries_of draft) (row_by (entries_of draft)))
 
+-- the place of a cycle is that of a definition
 pub cycle-place : (draft : Draft) (limit : ℕ) (rows : List (List Reference)) (nested : List ℕ) (answer : Option ChainFault) (place : ℕ) → IsGraph draft limit rows nested → answer ≡ Some (Cycle place) → IsAnswer limit rows nested answer → place < length draft.definitions
 cycle-place draft limit rows nested answer place graph is h =
     let cyclic = said draft limit rows nested answer (Some (Cycle place)) graph is h in
     let inside = refers-within (graph_by (entries_of draft)) place cyclic.cyclic.next cyclic.cyclic.refers in
     omega (arith, length-map (entries_of draft) (row_by (entries_of draft)), length-map draft.definitions entry_of)
 
+-- so is the place of one that is too deep
 pub deep-place : (draft : Draft) (limit : ℕ) (rows : List (List Reference)) (nested : List ℕ) (answer : Option ChainFault) (place : ℕ) → IsGraph draft limit rows nested → answer ≡ Some (TooDeep place) → IsAnswer limit rows nested answer → place < length draft.definitions
 deep-place draft limit rows nested answer place graph is h =
     let deeper = (said draft limit rows nested answer (Some (TooDeep place)) graph is h).1 in
@@ -202,6 +214,7 @@ deep-place draft limit rows nested answer place graph is h =
           absurd (omega (arith, deeper.deeper)))
     ]
 
+-- the answer that nothing is wrong
 pub answered-none : (draft : Draft) (limit : ℕ) (rows : List (List Reference)) (nested : List ℕ) (answer : Option ChainFault) → IsDraft draft → HasNames draft → IsGraph draft limit rows nested → answer ≡ None → IsAnswer limit rows nested answer → name_fault draft ≡ None
 answered-none draft limit rows nested answer is names graph none h = no-fault draft is names (said draft limit rows nested answer None graph none h)
 
@@ -212,11 +225,13 @@ definition-at draft slice place d same inside is =
 fault-same : (found other : ModelFault) → ◌≡◌ {A = Result (Unit {0}) CheckError} (Err (Fault found)) (Err (Fault other)) → found ≡ other
 fault-same found other h = cc
 
+-- the answer of a cycle
 pub answered-cycle : (draft : Draft) (limit : ℕ) (rows : List (List Reference)) (nested : List ℕ) (answer : Option ChainFault) (place : ℕ) (slice : List DraftDefinition) (d : DraftDefinition) (found : ModelFault) → IsDraft draft → HasNames draft → IsGraph draft limit rows nested → answer ≡ Some (Cycle place) → IsAnswer limit rows nested answer → slice ≡ draft.definitions → d ≡ get_or slice place d → found ≡ (fault_of fault.Cycle (entry_of d)).fault → (other : ModelFault) → ◌≡◌ {A = Result (Unit {0}) CheckError} (Err (Fault found)) (Err (Fault other)) → name_fault draft ≡ Some other
 answered-cycle draft limit rows nested answer place slice d found is names graph at h same read made other err =
     cycle-fault draft is names place d (definition-at draft slice place d same (cycle-place draft limit rows nested answer place graph at h) read) (said draft limit rows nested answer (Some (Cycle place)) graph at h)
     ∙ ap Some (sym made ∙ fault-same found other err)
 
+-- the answer of a depth
 pub answered-deep : (draft : Draft) (limit : ℕ) (rows : List (List Reference)) (nested : List ℕ) (answer : Option ChainFault) (place : ℕ) (slice : List DraftDefinition) (d : DraftDefinition) (found : ModelFault) → IsDraft draft → HasNames draft → IsGraph draft limit rows nested → answer ≡ Some (TooDeep place) → IsAnswer limit rows nested answer → slice ≡ draft.definitions → d ≡ get_or slice place d → found ≡ (fault_of fault.TooDeep (entry_of d)).fault → (other : ModelFault) → ◌≡◌ {A = Result (Unit {0}) CheckError} (Err (Fault found)) (Err (Fault other)) → name_fault draft ≡ Some other
 answered-deep draft limit rows nested answer place slice d found is names graph at h same read made other err =
     deep-fault draft is names place d (definition-at draft slice place d same (deep-place draft limit rows nested answer place graph at h) read) (said draft limit rows nested answer (Some (TooDeep place)) graph at h)

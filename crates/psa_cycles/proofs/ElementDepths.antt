@@ -189,6 +189,7 @@ module _ (depths : List ℕ) (entries : Entries) (have : HaveHeights depths entr
   on-reference from None = sym (le-leb 0 n (omega arith))
   on-reference from (Some r) = on-target from r (followed entries from r) refl
 
+-- an element is within so many levels exactly where its depth is at most so great
 pub within-height : (depths : List ℕ) (entries : Entries) → HaveHeights depths entries → (n : ℕ) (from : Entry) (one : Outline) → is_within n entries from one ≡ nat_le (height depths entries from one) n
 unfolding is_within
 within-height depths entries have zero from (element reference inside) = sym (lt-leb (height depths entries from (element reference inside)) 0 (omega arith))

@@ -56,6 +56,7 @@ behind one other (next ∷ others) before ascending =
       behind one next others (before-trans one other next before (before-parts other next parts.0)) parts.1,
     )
 
+-- where positions ascend none stands before an earlier one
 pub in-order : (positions : List Position) → are_ascending positions ≡ true → InOrder positions
 in-order [] ascending = tt
 in-order (one ∷ []) ascending = (tt, tt)
@@ -92,6 +93,7 @@ module _ {X : Type 0} (make : X → PlacedFault) (test : X → Bool) where
   earlier-first x None none = refl
   earlier-first x (Some other) none = rw none refl
 
+  -- the fault that stands first is that of the first that fails
   pub first-fails : (xs : List X) → InOrder (map place xs) → (i : ℕ) (x : X) → slice_get xs i ≡ Some x → test x ≡ true → ((j : ℕ) (y : X) → j < i → slice_get xs j ≡ Some y → test y ≡ false) → earliest (map make (filter test xs)) ≡ Some (make x)
   first-fails [] order i x at fails before = absurd (none-some x at)
   first-fails (y ∷ xs) order zero x at fails before =
@@ -103,6 +105,7 @@ module _ {X : Type 0} (make : X → PlacedFault) (test : X → Bool) where
       let here : test y ≡ false = before 0 y (omega arith) refl in
       rw here (first-fails xs order.1 i x at fails (λ j z low there. before (suc j) z (omega arith) there))
 
+  -- where none fails there is no fault
   pub none-fails : (xs : List X) → ((j : ℕ) (y : X) → slice_get xs j ≡ Some y → test y ≡ false) → earliest (map make (filter test xs)) ≡ None
   none-fails [] pass = refl
   none-fails (y ∷ xs) pass =
@@ -111,11 +114,13 @@ module _ {X : Type 0} (make : X → PlacedFault) (test : X → Bool) where
 
 -- ---- definitions with their places
 
+-- a definition with its place, by the place
 pub numbered-at : (n : ℕ) (entries : Entries) (i : ℕ) (one : Entry) → slice_get entries i ≡ Some one → slice_get (enumerate_from n entries) i ≡ Some (n + i, one)
 numbered-at n [] i one at = absurd (none-some one at)
 numbered-at n (e ∷ es) zero one at = let same = same_Some e one at in let sum : n ≡ n + 0 = omega arith in cc
 numbered-at n (e ∷ es) (suc i) one at = let sum : n + 1 + i ≡ n + suc i = omega arith in numbered-at (n + 1) es i one at ∙ ap (λ k. Some (k, one)) sum
 
+-- and back
 pub numbered-is : (n : ℕ) (entries : Entries) (i : ℕ) (x : ℕ × Entry) → slice_get (enumerate_from n entries) i ≡ Some x → (x.0 ≡ n + i) × (slice_get entries i ≡ Some x.1)
 numbered-is n [] i x at = absurd (none-some x at)
 numbered-is n (e ∷ es) zero x at =
@@ -129,6 +134,7 @@ numbered-is n (e ∷ es) (suc i) x at =
     let sum : n + 1 + i ≡ n + suc i = omega arith in
     (rest.0 ∙ sum, rest.1)
 
+-- definitions with their places have the positions of definitions
 pub numbered-positions : (n : ℕ) (entries : Entries) → map (λ (x : ℕ × Entry). position_of x.1.definition) (enumerate_from n entries) ≡ map (λ one. position_of one.definition) entries
 numbered-positions n [] = refl
 numbered-positions n (e ∷ es) = ap (λ ps. position_of e.definition ∷ ps) (numbered-positions (n + 1) es)

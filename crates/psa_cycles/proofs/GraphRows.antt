@@ -42,6 +42,7 @@ module _ (definitions : List DraftDefinition) (senses : List Sense) (i : ℕ) (i
   size : last ≡ first + length (levels_of one)
   size = upto ∙ ap length levels-after ∙ length-append before.references (levels_of one) ∙ ap (λ n. n + length (levels_of one)) (sym from)
 
+  -- the references of one more definition are among those that were found
   pub enough : last ≤ length senses
   enough = senses-enough entries senses i one first last found inside one-is start size
 
@@ -55,11 +56,13 @@ module _ (definitions : List DraftDefinition) (senses : List Sense) (i : ℕ) (i
       (ap (λ ls. steps ls (map (target_of entries) slice)) (p ∙ own-levels)
       ∙ ap (steps (levels_of one)) (ap (map (target_of entries)) q ∙ own-targets entries senses i one first last found inside one-is start size))
 
+  -- the rows up to one more definition
   pub rows-more : (own : List ℕ) (slice : List Sense) (row : List Step) (rows new : List (List Step)) → own ≡ drop first after.references → slice ≡ take (last - first) (drop first senses) → row ≡ (if is_chained item.kind then steps own (map (target_of entries) slice) else []) → rows ≡ map (row_by entries) (take i entries) → new ≡ rows ++ row ∷ [] → new ≡ map (row_by entries) (take (i + 1) entries)
   rows-more own slice row rows new p q made so_far pushed_row =
       pushed_row ∙ ap (λ rs. rs ++ row ∷ []) so_far ∙ ap (λ r. map (row_by entries) (take i entries) ++ r ∷ []) (row-is own slice row p q made)
       ∙ sym (map_more (row_by entries) entries i one inside ∙ ap (λ e. map (row_by entries) (take i entries) ++ row_by entries e ∷ []) (sym one-is))
 
+  -- the nestings up to one more definition
   pub nested-more : (nesting : ℕ) (nested new : List ℕ) → nesting ≡ (if is_chained item.kind then after.deepest else 0) → nested ≡ map nesting_by (take i entries) → new ≡ nested ++ nesting ∷ [] → new ≡ map nesting_by (take (i + 1) entries)
   nested-more nesting nested new made so_far pushed_nesting =
       pushed_nesting ∙ ap (λ ns. ns ++ nesting ∷ []) so_far
@@ -72,6 +75,7 @@ module _ (definitions : List DraftDefinition) (senses : List Sense) (i : ℕ) (i
           none-deeper : (d : ℕ) → max 0 d ≡ d
           none-deeper d = omega arith
 
+  -- the levels up to one more definition
   pub levels-more : after.references ≡ flat_map levels_of (take (i + 1) entries)
   levels-more =
       levels-after ∙ ap (λ ls. ls ++ levels_of one) levels

@@ -26,12 +26,14 @@ length-own level None = refl
 length-own level (Some r) = refl
 
 mutual
+  -- each reference in an element has its level
   pub length-levels : (a : ℕ) (one : Outline) → length (levels_in a one) ≡ length (references_in one)
   length-levels a (element reference inside) =
       let own = length-own (a + 1) reference in
       let rest = length-levels-all (a + 1) inside in
       omega (arith, length-append (own_level (a + 1) reference) (levels_in_all (a + 1) inside), length-append (own_reference reference) (references_in_all inside))
 
+  -- each reference in some elements has its level
   pub length-levels-all : (a : ℕ) (all : Outlines) → length (levels_in_all a all) ≡ length (references_in_all all)
   length-levels-all a none = refl
   length-levels-all a (and one others) =
@@ -64,6 +66,7 @@ references-elements one =
 abbrev pub levels_of : Entry → List ℕ
 levels_of one = levels_in_all 0 (joined (elements_of one))
 
+-- each reference of a definition has its level
 pub length-levels-of : (one : Entry) → length (levels_of one) ≡ length (references_of one)
 length-levels-of one = length-levels-all 0 (joined (elements_of one)) ∙ ap length (references-elements one)
 
@@ -139,6 +142,7 @@ senses-enough entries senses i one first last found low is from upto =
 
 -- ---- steps
 
+-- the steps of some references and then of others
 pub steps-append : (ls ms : List ℕ) (ts us : List (Option ℕ)) → length ls ≡ length ts → steps (ls ++ ms) (ts ++ us) ≡ steps ls ts ++ steps ms us
 steps-append [] ms [] us same = refl
 steps-append [] ms (t ∷ ts) us same = absurd (omega arith)

@@ -2,6 +2,7 @@
 use Rattle.std.proofs.Common.{◌≡◌, ◌≤◌, ◌<◌, ℕ, zero, suc, max, List, [], ◌∷◌, ◌++◌, length, get_or, map, ap, arith}
 use Rattle.psa_model.specs.Drafts.{Contents, together}
 
+-- how deep some elements and others are nested
 pub nesting-append : (xs ys : List Contents) → (together (xs ++ ys)).nesting ≡ max (together xs).nesting (together ys).nesting
 nesting-append [] ys = omega arith
 nesting-append (x ∷ xs) ys = let rest = nesting-append xs ys in omega arith

@@ -39,6 +39,7 @@ row-at f [] place = refl
 row-at f (x ∷ xs) zero = refl
 row-at f (x ∷ xs) (suc place) = row-at f xs place
 
+-- the row of a definition
 pub row-some : (entries : Entries) (place : ℕ) (one : Entry) → slice_get entries place ≡ Some one → row (graph_by entries) place ≡ row_by entries one
 row-some entries place one is = row-at (row_by entries) entries place ∙ ap (λ found. option_map_or (row_by entries) found []) is
 
@@ -75,11 +76,13 @@ chain-in entries to count from (further rest start next here chain) =
     let more = chain-in entries to rest next chain in
     record { next = next; refers = refers-in entries start next here; path = more.next ∷ more.path; along = (more.refers, more.along) }
 
+-- a place on a cycle of the graph leads to itself in the draft
 pub cyclic-leads : (entries : Entries) (place : ℕ) → IsCyclic (graph_by entries) place → leads (length entries) entries place place ≡ true
 cyclic-leads entries place cyclic =
     let chain = chain-from entries cyclic.back.path place cyclic.next place (refers-from entries place cyclic.next cyclic.refers) cyclic.back.chain in
     enough-steps entries chain.0 place place chain.1
 
+-- a place on none does not
 pub acyclic-leads : (entries : Entries) (place : ℕ) → (IsCyclic (graph_by entries) place → ⊥) → leads (length entries) entries place place ≡ false
 acyclic-leads entries place acyclic = false_from_ne_true (leads (length entries) entries place place) (λ h. acyclic (cyclic h))
   where
@@ -122,6 +125,7 @@ filtered-stand : (entries : Entries) (from : Entry) (references : List Reference
 filtered-stand entries from [] to here = absurd (omega (arith, here.1))
 filtered-stand entries from (r ∷ rs) to here = filtered-more entries from r rs to (followed entries from r) refl (λ h. filtered-stand entries from rs to h) here
 
+-- each reference of the graph leads to a definition
 pub graph-stands : (entries : Entries) → AllStand (graph_by entries)
 graph-stands entries from to refers = let low = by_entry (slice_get entries from) (refers-from entries from to refers) in omega (arith, length-map entries (row_by entries))
   where
