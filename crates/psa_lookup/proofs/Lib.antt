@@ -1,0 +1,14 @@
+pub mod AddressLemmas
+pub mod AskedLemmas
+pub mod BoolLemmas
+pub mod DraftLemmas
+pub mod GroupingLemmas
+pub mod KindLemmas
+pub mod NotingLemmas
+pub mod NumberLemmas
+pub mod PositionLemmas
+pub mod RepeatLemmas
+pub mod RightLemmas
+pub mod SearchLemmas
+pub mod SenseLemmas
+pub mod StateLemmas

@@ -1,0 +1,10 @@
+pub mod Asking
+pub mod Grouping
+pub mod Keys
+pub mod Noting
+pub mod Numbers
+pub mod Repeats
+pub mod Senses
+pub mod Sooner
+pub mod States
+pub mod Tables
