@@ -2,3 +2,15 @@ pub mod ListLemmas
 pub mod IndexLemmas
 pub mod RankLemmas
 pub mod WalkLemmas
+pub mod PlaceLemmas
+pub mod NodeLemmas
+pub mod SoundLemmas
+pub mod FormulaLemmas
+pub mod EventLemmas
+pub mod ConnectiveLemmas
+pub mod CountLemmas
+pub mod LoweringLemmas
+pub mod StateLemmas
+pub mod PathLemmas
+pub mod PigeonLemmas
+pub mod TargetLemmas

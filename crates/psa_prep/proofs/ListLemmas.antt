@@ -1,5 +1,5 @@
 -- What stands in a list at a place.
-use Rattle.std.proofs.Common.{◌≡◌, ◌≤◌, ◌<◌, ◌+◌, ℕ, suc, zero, Bool, true, List, [], ◌∷◌, ◌++◌, Some, length, take, get_or, refl, ap, sym, ◌∙◌, subst, cond, eqb, ne_eqb, None, arith}
+use Rattle.std.proofs.Common.{◌≡◌, ◌≤◌, ◌<◌, ◌+◌, ℕ, suc, zero, Bool, true, List, [], ◌∷◌, ◌++◌, Some, length, take, get_or, refl, ap, sym, ◌∙◌, subst, cond, eqb, ne_eqb, Option, None, arith}
 use Rattle.std.specs.List.{slice_get, list_all, flat_map}
 use Rattle.std.proofs.lemmas.List.{append-nil, append_assoc, take_more, get_or_default}
 use lib.Dec.{eqb-suc-suc}
@@ -46,3 +46,11 @@ slice_get-push (y ∷ ys) x (suc i) = rw (eqb-suc-suc i (length ys)) (slice_get-
 -- an item that was read from the same list
 pub item-of : {A : Type 0} (xs ys : List A) (i : ℕ) (d : A) → xs ≡ ys → i < length ys → get_or xs i d ≡ get_or ys i (get_or xs i d)
 item-of xs ys i d same inside = ap (λ zs. get_or zs i d) same ∙ get_or_default ys i d (get_or xs i d) inside
+
+-- a place with an item is not without
+pub some-none : {A : Type 0} (xs : List A) (i : ℕ) (x : A) → slice_get xs i ≡ Some x → slice_get xs i ≡ None → ⊥
+some-none xs i x found missing = absurd (cc)
+
+-- an item at a place is the one
+pub some-same : {A : Type 0} (o : Option A) (x y : A) → o ≡ Some x → o ≡ Some y → y ≡ x
+some-same o x y p q = cc

@@ -1,2 +1,12 @@
 pub mod Index
 pub mod Ranking
+pub mod Places
+pub mod Pairs
+pub mod Nodes
+pub mod States
+pub mod Sound
+pub mod Lowering
+pub mod Connectives
+pub mod Counting
+pub mod Paths
+pub mod Preparing

@@ -1,0 +1,165 @@
+-- The truths of the nodes of a graph while it grows.
+use Rattle.std.proofs.Common.{◌≡◌, ◌⊎◌, inl, inr, ◌<◌, ◌≤◌, ◌+◌, ℕ, suc, Bool, true, false, ◌==◌, List, [], ◌∷◌, ◌++◌, length, reverse, Option, Some, None, if◌then◌else◌, not, ◌&&◌, ◌||◌, refl, sym, ap, ◌∙◌, subst, arith, ne_eqb, eq-eqb, eqb-true, true≢false, length-append}
+use Rattle.psa_model.proofs.Levels.{and-left, and-right}
+use Rattle.std.proofs.lemmas.Bool.Decides.{eqb_tells}
+use Rattle.psa_graph.specs.declared.graph.GraphNode.{GraphNode}
+use Rattle.psa_graph.specs.declared.graph.GraphNode.TheVariants.{Constant, Literal, And, Or}
+use Rattle.psa_graph.specs.contracts.graph.GraphNodePartialEq.TheImpl as the_impl
+use Rattle.psa_graph.specs.Truths.{literal_truth, truth_at, node_truth, IsNodeBehind, AreChildrenFirst}
+use Rattle.psa_model.specs.Parts.{Truth}
+use Rattle.psa_prep.specs.declared.builder.Builder.{Builder}
+use Rattle.psa_prep.specs.Nodes.{nodes_of, joins, IsBuilt, Placed, JoinsAt, Joined, IsBlank}
+use Rattle.psa_prep.specs.Places.{older_at, IsAdded, Grown}
+use Rattle.psa_prep.proofs.PlaceLemmas.{added-grown, grown-length, grown-self}
+
+-- the derived comparison of nodes
+abbrev pub node_eq : GraphNode → GraphNode → Bool
+node_eq a b = the_impl.ghosts.eq a b
+
+-- what it passes is equal
+pub node-exact : (a b : GraphNode) → node_eq a b ≡ true → a ≡ b
+node-exact (Constant true) (Constant true) h = refl
+node-exact (Constant true) (Constant false) h = absurd (cc)
+node-exact (Constant false) (Constant true) h = absurd (cc)
+node-exact (Constant false) (Constant false) h = refl
+node-exact (Constant b) _ h = absurd (cc)
+node-exact (Literal rank true) (Literal other true) h = ap (λ r. Literal r true) (eqb-true rank other (and-left _ _ h))
+node-exact (Literal rank false) (Literal other false) h = ap (λ r. Literal r false) (eqb-true rank other (and-left _ _ h))
+node-exact (Literal rank true) (Literal other false) h = absurd (true≢false (sym (and-right _ _ h)))
+node-exact (Literal rank false) (Literal other true) h = absurd (true≢false (sym (and-right _ _ h)))
+node-exact (Literal rank b) _ h = absurd (cc)
+node-exact (And a b) (And c d) h = let left = eqb-true a c (and-left _ _ h) in let right = eqb-true b d (and-right _ _ h) in λ i. And (left i) (right i)
+node-exact (And a b) _ h = absurd (cc)
+node-exact (Or a b) (Or c d) h = let left = eqb-true a c (and-left _ _ h) in let right = eqb-true b d (and-right _ _ h) in λ i. Or (left i) (right i)
+node-exact (Or a b) _ h = absurd (cc)
+
+truth-cons : (n : GraphNode) (older : List GraphNode) (place : ℕ) (s : ℕ → Bool) → place < length older → truth_at (n ∷ older) place s ≡ truth_at older place s
+truth-cons n older place s l = rw (ne_eqb place (length older) (λ e. omega arith)) refl
+
+truth-newest : (n : GraphNode) (older : List GraphNode) (s : ℕ → Bool) → truth_at (n ∷ older) (length older) s ≡ node_truth (truth_at older) n s
+truth-newest n older s = rw (eq-eqb (length older) (length older) refl) refl
+
+truth-more : (more before : List GraphNode) (place : ℕ) (s : ℕ → Bool) → place < length before → truth_at (more ++ before) place s ≡ truth_at before place s
+truth-more [] before place s l = refl
+truth-more (n ∷ more) before place s l =
+    let size : length (more ++ before) ≡ length more + length before = length-append more before in
+    truth-cons n (more ++ before) place s (omega arith) ∙ truth-more more before place s l
+
+-- a place reads the same when nodes come in
+pub truth-grown : (before now : List GraphNode) → Grown before now → (place : ℕ) → place < length before → (s : ℕ → Bool) → truth_at now place s ≡ truth_at before place s
+truth-grown before now g place l s = ap (λ ns. truth_at ns place s) g.1 ∙ truth-more g.0 before place s l
+
+-- a node reads the same over readings that agree on the places that it names
+node-same : (f g : ℕ → Truth) (width bound : ℕ) (n : GraphNode) (s : ℕ → Bool) → IsNodeBehind width bound n → ((p : ℕ) → p < bound → f p s ≡ g p s) → node_truth f n s ≡ node_truth g n s
+node-same f g width bound (Constant b) s behind same = refl
+node-same f g width bound (Literal rank occurs) s behind same = refl
+node-same f g width bound (And left right) s behind same = let a = same left behind.0 in let b = same right behind.1 in λ i. a i && b i
+node-same f g width bound (Or left right) s behind same = let a = same left behind.0 in let b = same right behind.1 in λ i. a i || b i
+
+behind-more : (width bound more : ℕ) (n : GraphNode) → bound ≤ more → IsNodeBehind width bound n → IsNodeBehind width more n
+behind-more width bound more (Constant b) l h = tt
+behind-more width bound more (Literal rank occurs) l h = h
+behind-more width bound more (And left right) l h = (omega arith, omega arith)
+behind-more width bound more (Or left right) l h = (omega arith, omega arith)
+
+-- the node at a place names earlier places
+found-behind : (width : ℕ) (ns : List GraphNode) (place : ℕ) (n : GraphNode) → AreChildrenFirst width ns → older_at ns place ≡ Some n → (place < length ns) × IsNodeBehind width place n
+found-behind width [] place n first e = absurd (cc)
+found-behind width (m ∷ older) place n first e = elim (eqb_tells place (length older)) [
+  | inl p ↦
+      let is : Some m ≡ Some n = rw p.0 at e in
+      let same : m ≡ n = cc in
+      (omega (arith, p.1), subst (λ (k : ℕ). IsNodeBehind width k n) (sym p.1) (subst (λ (k : GraphNode). IsNodeBehind width (length older) k) same first.0))
+  | inr p ↦
+      let there = found-behind width older place n first.1 (rw p.0 at e) in
+      let l : place < length older = there.0 in
+      (omega arith, there.1)
+]
+
+-- .. and reads as itself over the whole list
+pub truth-found : (width : ℕ) (ns : List GraphNode) (place : ℕ) (n : GraphNode) → AreChildrenFirst width ns → older_at ns place ≡ Some n → (s : ℕ → Bool) → truth_at ns place s ≡ node_truth (truth_at ns) n s
+truth-found width [] place n first e s = absurd (cc)
+truth-found width (m ∷ older) place n first e s = elim (eqb_tells place (length older)) [
+  | inl p ↦
+      let is : Some m ≡ Some n = rw p.0 at e in
+      let same : m ≡ n = cc in
+      ap (λ k. truth_at (m ∷ older) k s) p.1 ∙ truth-newest m older s
+      ∙ node-same (truth_at older) (truth_at (m ∷ older)) width (length older) m s first.0 (λ q l. sym (truth-cons m older q s l))
+      ∙ ap (λ k. node_truth (truth_at (m ∷ older)) k s) same
+  | inr p ↦
+      let e' = rw p.0 at e in
+      let there = found-behind width older place n first.1 e' in
+      let inside : place < length older = there.0 in
+      truth-cons m older place s inside ∙ truth-found width older place n first.1 e' s
+      ∙ node-same (truth_at older) (truth_at (m ∷ older)) width place n s there.1 (λ q l. sym (truth-cons m older q s (omega arith)))
+]
+
+-- a graph that grew
+pub built-grown : (before now : Builder) → Grown (nodes_of before) (nodes_of now) → AreChildrenFirst now.width (nodes_of now) → IsBuilt before → IsBuilt now
+built-grown before now g first built =
+    let longer = grown-length (nodes_of before) (nodes_of now) g in
+    let some : 1 < length (nodes_of before) = built.some in record {
+      first = first;
+      some = omega arith;
+      falsity = λ s. truth-grown (nodes_of before) (nodes_of now) g 0 (omega arith) s ∙ built.falsity s;
+      verity = λ s. truth-grown (nodes_of before) (nodes_of now) g 1 (omega arith) s ∙ built.verity s;
+    }
+
+-- a node that was added is placed
+pub placed-node : (node : GraphNode) (before now : Builder) (place : ℕ) → IsBuilt before → IsNodeBehind before.width (length (nodes_of before)) node → IsAdded node (nodes_of before) (nodes_of now) place → now.width ≡ before.width → now.memo ≡ before.memo → Placed true (node_truth (truth_at (nodes_of before)) node) before now place
+placed-node node before now place built behind is_added same_width same_memo =
+    let g = added-grown node (nodes_of before) (nodes_of now) place is_added in
+    let first_now : AreChildrenFirst now.width (nodes_of now) = first in record {
+      there = (found-behind now.width (nodes_of now) place node first_now is_added.0).0;
+      reads = λ asked s.
+          truth-found now.width (nodes_of now) place node first_now is_added.0 s
+          ∙ node-same (truth_at (nodes_of now)) (truth_at (nodes_of before)) before.width (length (nodes_of before)) node s behind
+          (λ q l. truth-grown (nodes_of before) (nodes_of now) g q l s);
+      adds = elim is_added.1 [ inl p ↦ inl p | inr p ↦ inr (node, p.0, p.1, refl) ];
+      built = built-grown before now g first_now built;
+      width = same_width;
+      memo = same_memo;
+    }
+  where
+    first : AreChildrenFirst now.width (nodes_of now)
+    first = subst (λ (w : ℕ). AreChildrenFirst w (nodes_of now)) (sym same_width)
+        (elim is_added.1 [
+          | inl p ↦ subst (λ (ns : List GraphNode). AreChildrenFirst before.width ns) (sym p) built.first
+          | inr p ↦ subst (λ (ns : List GraphNode). AreChildrenFirst before.width ns) (sym p.0) (behind, built.first)
+        ])
+
+-- a placed truth as another that is the same at each set
+pub placed-as : (f g : Truth) (before now : Builder) (place : ℕ) → ((s : ℕ → Bool) → f s ≡ g s) → Placed true f before now place → Placed true g before now place
+placed-as f g before now place same p = record {
+  there = p.there;
+  reads = λ asked s. p.reads asked s ∙ same s;
+  adds = p.adds;
+  built = p.built;
+  width = p.width;
+  memo = p.memo;
+}
+
+-- a place that was there
+pub placed-there : (f : Truth) (builder : Builder) (place : ℕ) → IsBuilt builder → place < length (nodes_of builder) → ((s : ℕ → Bool) → truth_at (nodes_of builder) place s ≡ f s) → Placed true f builder builder place
+placed-there f builder place built inside reads = record { there = inside; reads = λ asked. reads; adds = inl refl; built = built; width = refl; memo = refl }
+
+-- nothing was asked for
+pub placed-none : (f : Truth) (builder : Builder) (asked : Bool) → IsBuilt builder → asked ≡ false → Placed asked f builder builder 0
+placed-none f builder asked built none =
+    let some : 1 < length (nodes_of builder) = built.some in record {
+      there = omega arith;
+      reads = λ is s. absurd (true≢false (sym is ∙ none));
+      adds = inl refl;
+      built = built;
+      width = refl;
+      memo = refl;
+    }
+
+-- the two constants alone
+pub blank-built : (width : ℕ) (builder : Builder) → IsBlank width builder → IsBuilt builder
+blank-built width builder blank = record {
+  first = subst (λ (ns : List GraphNode). AreChildrenFirst builder.width ns) (sym blank.nodes) (tt, (tt, tt));
+  some = subst (λ (ns : List GraphNode). 1 < length ns) (sym blank.nodes) (omega arith);
+  falsity = λ s. ap (λ ns. truth_at ns 0 s) blank.nodes;
+  verity = λ s. ap (λ ns. truth_at ns 1 s) blank.nodes;
+}
