@@ -14,3 +14,6 @@ pub mod CollectingInOrder
 pub mod CollectedForms
 pub mod BranchForms
 pub mod WalkForms
+pub mod FactorLevels
+pub mod GroupForms
+pub mod DottedNames

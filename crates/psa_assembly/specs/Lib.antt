@@ -6,3 +6,4 @@ pub mod Made
 pub mod Collecting
 pub mod Branches
 pub mod MadeWalks
+pub mod Groups

@@ -8,6 +8,7 @@ mod cursor;
 mod definitions;
 mod expressions;
 mod formulas;
+mod groups;
 mod instructions;
 mod names;
 mod numbering;
