@@ -3,5 +3,8 @@
 #![tactic(auto)]
 
 mod laws;
+mod reading;
 
 pub use laws::drafts_keep_their_promise;
+pub use psa_elements::ReadError;
+pub use reading::read_model;
