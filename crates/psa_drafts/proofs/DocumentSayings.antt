@@ -26,12 +26,14 @@ elements-out e = fold_out-Element ℕ elements_step e
 depth-out : (e : Element) → depth e ≡ 1 + greatest (map depth (out-Element e).children)
 depth-out e = fold_out-Element ℕ depth_step e
 
-sizes-as : (d : ℕ) → ((e : Element) → depth e ≤ d → size_of e ≡ elements_in e) → (es : List Element) → greatest (map depth es) ≤ d → sizes_of es ≡ sum (map elements_in es)
+sizes-as : (d : ℕ) → ((e : Element) → depth e ≤ d → size_of e ≡ elements_in e) → (es : List Element) → greatest
+    (map depth es) ≤ d → sizes_of es ≡ sum (map elements_in es)
 sizes-as d each [] shallow = refl
 sizes-as d each (e ∷ es) shallow =
     let first : size_of e ≡ elements_in e = each e (omega arith) in
     let others : sizes_of es ≡ sum (map elements_in es) = sizes-as d each es (omega arith) in
-    let whole : sum (map elements_in (e ∷ es)) ≡ elements_in e + sum (map elements_in es) = sum_by-cons (λ x. x) (elements_in e) (map elements_in es) in
+    let whole : sum (map elements_in (e ∷ es)) ≡ elements_in e + sum (map elements_in es) = sum_by-cons (λ x. x)
+    (elements_in e) (map elements_in es) in
     omega arith
 
 size-within : (d : ℕ) (e : Element) → depth e ≤ d → size_of e ≡ elements_in e
@@ -46,16 +48,19 @@ pub size-as : (e : Element) → size_of e ≡ elements_in e
 size-as e = size-within (depth e) e (omega arith)
 
 -- what stands in the root of a file can be read
-pub root-readable : (e : Element) → size_of e < 2 ^ 32 → list_all are_short (out-Element e).children ≡ true → AreReadable 1 (out-Element e).children
+pub root-readable : (e : Element) → size_of e < 2 ^ 32 → list_all are_short (out-Element e).children ≡ true →
+    AreReadable 1 (out-Element e).children
 root-readable e small short = record { fits = omega (arith, size-out e); short = short }
 
 -- ---- files
 
-pub says-file : (file : ℕ) (e : Element) → file_definitions (file, e) ≡ definitions_in (inside_among in_root (whole_file file) 0 e)
+pub says-file : (file : ℕ) (e : Element) → file_definitions (file, e) ≡ definitions_in (inside_among in_root
+    (whole_file file) 0 e)
 unfolding reading_as
 says-file file e = ap definitions_of (says-root (whole_file file) 0 e)
 
-enumerate-append : (n : ℕ) (xs : List Element) (x : Element) → enumerate_from n (xs ++ x ∷ []) ≡ enumerate_from n xs ++ (n + length xs, x) ∷ []
+enumerate-append : (n : ℕ) (xs : List Element) (x : Element) → enumerate_from n (xs ++ x ∷ []) ≡ enumerate_from n
+    xs ++ (n + length xs, x) ∷ []
 enumerate-append n [] x = ap (λ (m : ℕ). (m, x) ∷ []) (omega arith)
 enumerate-append n (y ∷ ys) x =
     ap (λ (more : List (ℕ × Element)). (n, y) ∷ more)
@@ -63,32 +68,39 @@ enumerate-append n (y ∷ ys) x =
 
 pub files-more : (docs : List Document) (i : ℕ) (d : Document) → i < length docs → d ≡ get_or docs i d
     → flat_map file_definitions (enumerate_from 0 (map (λ (doc : Document). doc.root) (take (i + 1) docs)))
-    ≡ flat_map file_definitions (enumerate_from 0 (map (λ (doc : Document). doc.root) (take i docs))) ++ file_definitions (i, d.root)
+    ≡ flat_map file_definitions (enumerate_from 0 (map (λ (doc : Document). doc.root) (take i docs))) ++
+    file_definitions (i, d.root)
 files-more docs i d l d_is =
     let root : Document → Element = λ (doc : Document). doc.root in
     let before : List Element = map root (take i docs) in
     let count : length before ≡ i = length-map (take i docs) root ∙ length-take-le i docs (omega arith) in
     ap (λ (part : List Document). flat_map file_definitions (enumerate_from 0 (map root part)))
     (take_more docs i d l ∙ ap (λ (one : Document). take i docs ++ one ∷ []) (sym d_is))
-    ∙ ap (λ (roots : List Element). flat_map file_definitions (enumerate_from 0 roots)) (map-append root (take i docs) (d ∷ []))
+    ∙ ap (λ (roots : List Element). flat_map file_definitions (enumerate_from 0 roots)) (map-append root (take i
+    docs) (d ∷ []))
     ∙ ap (λ (files : List (ℕ × Element)). flat_map file_definitions files) (enumerate-append 0 before d.root)
     ∙ flat_map-append file_definitions (enumerate_from 0 before) ((0 + length before, d.root) ∷ [])
     ∙ append-after (enumerate_from 0 before) (0 + length before) i (omega arith)
   where
     append-after : (files : List (ℕ × Element)) (m k : ℕ) → m ≡ k
-        → flat_map file_definitions files ++ (file_definitions (m, d.root) ++ []) ≡ flat_map file_definitions files ++ file_definitions (k, d.root)
+        → flat_map file_definitions files ++ (file_definitions (m, d.root) ++ []) ≡ flat_map file_definitions files
+        ++ file_definitions (k, d.root)
     append-after files m k same =
-        ap (λ (last : List DraftDefinition). flat_map file_definitions files ++ last) (append-nil (file_definitions (m, d.root)) ∙ ap (λ (p : ℕ). file_definitions (p, d.root)) same)
+        ap (λ (last : List DraftDefinition). flat_map file_definitions files ++ last) (append-nil (file_definitions
+        (m, d.root)) ∙ ap (λ (p : ℕ). file_definitions (p, d.root)) same)
 
 -- ---- facts of each document
 
 pub short-doc : (docs : List Document) (i : ℕ) (d : Document) → i < length docs → d ≡ get_or docs i d
-    → list_all (λ (root : Element). list_all are_short (out-Element root).children) (map (λ (doc : Document). doc.root) docs) ≡ true
+    → list_all (λ (root : Element). list_all are_short (out-Element root).children) (map (λ (doc : Document).
+    doc.root) docs) ≡ true
     → list_all are_short (out-Element d.root).children ≡ true
 short-doc [] i d l d_is h = absurd (omega arith)
 short-doc (doc ∷ docs) zero d l d_is h =
     ap (λ (one : Document). list_all are_short (out-Element one.root).children) d_is
-    ∙ (and_parts (list_all are_short (out-Element doc.root).children) (list_all (λ (root : Element). list_all are_short (out-Element root).children) (map (λ (one : Document). one.root) docs)) h).0
+    ∙ (and_parts (list_all are_short (out-Element doc.root).children) (list_all (λ (root : Element). list_all
+    are_short (out-Element root).children) (map (λ (one : Document). one.root) docs)) h).0
 short-doc (doc ∷ docs) (suc i) d l d_is h =
     short-doc docs i d (omega arith) d_is
-    (and_parts (list_all are_short (out-Element doc.root).children) (list_all (λ (root : Element). list_all are_short (out-Element root).children) (map (λ (one : Document). one.root) docs)) h).1
+    (and_parts (list_all are_short (out-Element doc.root).children) (list_all (λ (root : Element). list_all
+    are_short (out-Element root).children) (map (λ (one : Document). one.root) docs)) h).1

@@ -19,19 +19,25 @@ rows-operator operation.Div = refl
 rows-operator operation.Exponential = refl
 
 pub says-operation : (operator : ExpressionOperator) (around : Surroundings) (n : ℕ) (e : Element)
-    → expression_of (reading_as (table.operator operator) around n e) ≡ Some (expression.Operation operator (expressions_in (inside_among expressions around n e)))
+    → expression_of (reading_as (table.operator operator) around n e) ≡ Some (expression.Operation operator
+    (expressions_in (inside_among expressions around n e)))
 says-operation operator around n e =
     ap expression_of (reading-as (table.operator operator) around n e)
-    ∙ ap (λ rows. Some (expression.Operation operator (expressions_in (inside_among rows around n e)))) (rows-operator operator)
+    ∙ ap (λ rows. Some (expression.Operation operator (expressions_in (inside_among rows around n e))))
+    (rows-operator operator)
 
-pub says-float : (around : Surroundings) (n : ℕ) (e : Element) → expression_of (reading_as table.float around n e) ≡ Some (expression.Number (decimal_in (start_tag around n e)))
+pub says-float : (around : Surroundings) (n : ℕ) (e : Element) → expression_of (reading_as table.float around n e)
+    ≡ Some (expression.Number (decimal_in (start_tag around n e)))
 says-float around n e = ap expression_of (reading-as table.float around n e)
 
-pub says-int : (around : Surroundings) (n : ℕ) (e : Element) → expression_of (reading_as table.int around n e) ≡ Some (expression.Number (decimal_in (start_tag around n e)))
+pub says-int : (around : Surroundings) (n : ℕ) (e : Element) → expression_of (reading_as table.int around n e) ≡
+    Some (expression.Number (decimal_in (start_tag around n e)))
 says-int around n e = ap expression_of (reading-as table.int around n e)
 
-pub says-parameter : (around : Surroundings) (n : ℕ) (e : Element) → expression_of (reading_as table.parameter around n e) ≡ Some (expression.Parameter (reference (start_tag around n e)))
+pub says-parameter : (around : Surroundings) (n : ℕ) (e : Element) → expression_of (reading_as table.parameter
+    around n e) ≡ Some (expression.Parameter (reference (start_tag around n e)))
 says-parameter around n e = ap expression_of (reading-as table.parameter around n e)
 
-pub says-mission_time : (around : Surroundings) (n : ℕ) (e : Element) → expression_of (reading_as table.mission_time around n e) ≡ Some expression.MissionTime
+pub says-mission_time : (around : Surroundings) (n : ℕ) (e : Element) → expression_of (reading_as
+    table.mission_time around n e) ≡ Some expression.MissionTime
 says-mission_time around n e = ap expression_of (reading-as table.mission_time around n e)

@@ -41,10 +41,12 @@ rows-connective Cardinality = refl
 
 pub says-connective : (operator : Connective) (around : Surroundings) (n : ℕ) (e : Element)
     → formula_of (reading_as (table.connective operator) around n e)
-    ≡ Some (formula.Connective operator (least_of operator (start_tag around n e)) (most_of operator (start_tag around n e)) (formulas_in (inside_among formulas around n e)))
+    ≡ Some (formula.Connective operator (least_of operator (start_tag around n e)) (most_of operator (start_tag
+    around n e)) (formulas_in (inside_among formulas around n e)))
 says-connective operator around n e =
     ap formula_of (reading-as (table.connective operator) around n e)
-    ∙ ap (λ rows. Some (formula.Connective operator (least_of operator (start_tag around n e)) (most_of operator (start_tag around n e)) (formulas_in (inside_among rows around n e))))
+    ∙ ap (λ rows. Some (formula.Connective operator (least_of operator (start_tag around n e)) (most_of operator
+    (start_tag around n e)) (formulas_in (inside_among rows around n e))))
     (rows-connective operator)
 
 pub says-event : (its : EventKind) (around : Surroundings) (n : ℕ) (e : Element)
@@ -55,41 +57,54 @@ says-event asked.House around n e = ap formula_of (reading-as table.house_event 
 says-event asked.Any around n e = ap formula_of (reading-as table.event around n e)
 
 pub says-constant : (around : Surroundings) (n : ℕ) (e : Element)
-    → formula_of (reading_as table.constant around n e) ≡ Some (formula.Constant (has_value (start_tag around n e) (codes "value") (codes "true")))
+    → formula_of (reading_as table.constant around n e) ≡ Some (formula.Constant (has_value (start_tag around n e)
+    (codes "value") (codes "true")))
 says-constant around n e = ap formula_of (reading-as table.constant around n e)
 
 out-constant : (state : Bool) → out-DraftFormula (formula.Constant state) ≡ DraftFormula-F.Constant state
-out-constant state = ap out-DraftFormula (sym (formula.rolls-Constant state)) ∙ out-roll-DraftFormula (DraftFormula-F.Constant state)
+out-constant state = ap out-DraftFormula (sym (formula.rolls-Constant state)) ∙ out-roll-DraftFormula
+    (DraftFormula-F.Constant state)
 
 or-false : (b : Bool) → (b || false) ≡ b
 or-false true = refl
 or-false false = refl
 
 -- the state that a constant says, and that another element doesn't say
-pub constant-state : (around : Surroundings) (n : ℕ) (e : Element) (tag : Text) → tag ≡ (out-Element e).tag → bytes_eq tag (codes "constant") ≡ true
-    → has_value (start_tag around n e) (codes "value") (codes "true") ≡ state_in (reading_among (table.constant ∷ []) around n e ∷ [])
+pub constant-state : (around : Surroundings) (n : ℕ) (e : Element) (tag : Text) → tag ≡ (out-Element e).tag →
+    bytes_eq tag (codes "constant") ≡ true
+    → has_value (start_tag around n e) (codes "value") (codes "true") ≡ state_in (reading_among (table.constant ∷
+    []) around n e ∷ [])
 constant-state around n e tag tag_is is =
     let state : Bool = has_value (start_tag around n e) (codes "value") (codes "true") in
-    sym (or-false state) ∙ ap (λ (f : DraftFormula-F DraftFormula). is_true_constant f || false) (sym (out-constant state))
-    ∙ ap (λ (r : Reading). state_in (r ∷ [])) (sym (among-known (table.constant ∷ []) around n e tag (Some table.constant) tag_is (one-row table.constant tag is) ∙ reading-as table.constant around n e))
+    sym (or-false state) ∙ ap (λ (f : DraftFormula-F DraftFormula). is_true_constant f || false) (sym (out-constant
+    state))
+    ∙ ap (λ (r : Reading). state_in (r ∷ [])) (sym (among-known (table.constant ∷ []) around n e tag (Some
+    table.constant) tag_is (one-row table.constant tag is) ∙ reading-as table.constant around n e))
 
-pub no-state : (around : Surroundings) (n : ℕ) (e : Element) (tag : Text) → tag ≡ (out-Element e).tag → bytes_eq tag (codes "constant") ≡ false
+pub no-state : (around : Surroundings) (n : ℕ) (e : Element) (tag : Text) → tag ≡ (out-Element e).tag → bytes_eq
+    tag (codes "constant") ≡ false
     → false ≡ state_in (reading_among (table.constant ∷ []) around n e ∷ [])
 no-state around n e tag tag_is is =
-    ap (λ (r : Reading). state_in (r ∷ [])) (sym (among-known (table.constant ∷ []) around n e tag None tag_is (no-row table.constant tag is)))
+    ap (λ (r : Reading). state_in (r ∷ [])) (sym (among-known (table.constant ∷ []) around n e tag None tag_is
+    (no-row table.constant tag is)))
 
 state-append : (xs ys : List Reading) → state_in (xs ++ ys) ≡ (state_in xs || state_in ys)
 state-append xs ys =
-    ap (λ (fs : List DraftFormula). list_any (λ (one : DraftFormula). is_true_constant (out-DraftFormula one)) fs) (filter_map-append formula_of xs ys)
-    ∙ list_any-append (λ (one : DraftFormula). is_true_constant (out-DraftFormula one)) (filter_map formula_of xs) (filter_map formula_of ys)
+    ap (λ (fs : List DraftFormula). list_any (λ (one : DraftFormula). is_true_constant (out-DraftFormula one)) fs)
+    (filter_map-append formula_of xs ys)
+    ∙ list_any-append (λ (one : DraftFormula). is_true_constant (out-DraftFormula one)) (filter_map formula_of xs)
+    (filter_map formula_of ys)
 
 -- one more state
-pub state-more : (rows : List Row) (around : Surroundings) (first : ℕ) (cs : List Element) (i : ℕ) (x : Element) (n : ℕ) (so_far found : Bool)
+pub state-more : (rows : List Row) (around : Surroundings) (first : ℕ) (cs : List Element) (i : ℕ) (x : Element) (n
+    : ℕ) (so_far found : Bool)
     → n ≡ first + sizes_of (take i cs) → i < length cs → x ≡ get_or cs i x
-    → so_far ≡ state_in (readings_among rows around first (take i cs)) → found ≡ state_in (reading_among rows around n x ∷ [])
+    → so_far ≡ state_in (readings_among rows around first (take i cs)) → found ≡ state_in (reading_among rows
+    around n x ∷ [])
     → (so_far || found) ≡ state_in (readings_among rows around first (take (i + 1) cs))
 state-more rows around first cs i x n so_far found n_is l x_is so_far_is found_is =
-    ap (λ (b : Bool). b || found) so_far_is ∙ ap (λ (b : Bool). state_in (readings_among rows around first (take i cs)) || b) found_is
+    ap (λ (b : Bool). b || found) so_far_is ∙ ap (λ (b : Bool). state_in (readings_among rows around first (take i
+    cs)) || b) found_is
     ∙ sym (state-append (readings_among rows around first (take i cs)) (reading_among rows around n x ∷ []))
     ∙ ap (λ (rs : List Reading). state_in rs) (sym (next-reading rows around first cs i x n n_is l x_is))
 

@@ -18,32 +18,40 @@ use Rattle.psa_drafts.specs.Rows.{row_of_instruction, row_of_end}
 use Rattle.psa_drafts.specs.Sayings.{start_tag, reading_as, reading_found, reading_among, inside_among}
 use Rattle.psa_drafts.proofs.Readings.{reading-as}
 
-pub says-collect : (around : Surroundings) (n : ℕ) (e : Element) → instruction_of (reading_as table.collect_formula around n e) ≡ Some (instruction.Collect (formula_in (inside_among formulas around n e)))
+pub says-collect : (around : Surroundings) (n : ℕ) (e : Element) → instruction_of (reading_as table.collect_formula
+    around n e) ≡ Some (instruction.Collect (formula_in (inside_among formulas around n e)))
 says-collect around n e = ap instruction_of (reading-as table.collect_formula around n e)
 
 pub says-set : (around : Surroundings) (n : ℕ) (e : Element)
-    → instruction_of (reading_as table.set_house_event around n e) ≡ Some (instruction.SetHouse (reference (start_tag around n e)) (state_in (inside_among (constant ∷ []) around n e)))
+    → instruction_of (reading_as table.set_house_event around n e) ≡ Some (instruction.SetHouse (reference
+    (start_tag around n e)) (state_in (inside_among (constant ∷ []) around n e)))
 says-set around n e = ap instruction_of (reading-as table.set_house_event around n e)
 
-pub says-block : (around : Surroundings) (n : ℕ) (e : Element) → instruction_of (reading_as table.block around n e) ≡ Some (instruction.Block (instructions_in (inside_among instructions around n e)))
+pub says-block : (around : Surroundings) (n : ℕ) (e : Element) → instruction_of (reading_as table.block around n e)
+    ≡ Some (instruction.Block (instructions_in (inside_among instructions around n e)))
 says-block around n e = ap instruction_of (reading-as table.block around n e)
 
-pub says-rule : (around : Surroundings) (n : ℕ) (e : Element) → instruction_of (reading_as table.rule around n e) ≡ Some (instruction.Rule (reference (start_tag around n e)))
+pub says-rule : (around : Surroundings) (n : ℕ) (e : Element) → instruction_of (reading_as table.rule around n e) ≡
+    Some (instruction.Rule (reference (start_tag around n e)))
 says-rule around n e = ap instruction_of (reading-as table.rule around n e)
 
 pub says-if : (around : Surroundings) (n : ℕ) (e : Element)
     → instruction_of (reading_as table.if_instruction around n e)
-    ≡ instruction_of (conditional (filter_map test_of (inside_among (tests ++ instructions) around n e)) (instructions_in (inside_among (tests ++ instructions) around n e)))
+    ≡ instruction_of (conditional (filter_map test_of (inside_among (tests ++ instructions) around n e))
+    (instructions_in (inside_among (tests ++ instructions) around n e)))
 says-if around n e = ap instruction_of (reading-as table.if_instruction around n e)
 
 pub says-fork : (around : Surroundings) (n : ℕ) (e : Element)
-    → end_of (reading_as table.fork around n e) ≡ Some (ends.Fork (reference_by (codes "functional-event") (start_tag around n e)) (filter_map path_of (inside_among (path ∷ []) around n e)))
+    → end_of (reading_as table.fork around n e) ≡ Some (ends.Fork (reference_by (codes "functional-event")
+    (start_tag around n e)) (filter_map path_of (inside_among (path ∷ []) around n e)))
 says-fork around n e = ap end_of (reading-as table.fork around n e)
 
-pub says-sequence : (around : Surroundings) (n : ℕ) (e : Element) → end_of (reading_as table.to_sequence around n e) ≡ Some (ends.Sequence (reference (start_tag around n e)))
+pub says-sequence : (around : Surroundings) (n : ℕ) (e : Element) → end_of (reading_as table.to_sequence around n
+    e) ≡ Some (ends.Sequence (reference (start_tag around n e)))
 says-sequence around n e = ap end_of (reading-as table.to_sequence around n e)
 
-pub says-branch : (around : Surroundings) (n : ℕ) (e : Element) → end_of (reading_as table.to_branch around n e) ≡ Some (ends.Branch (reference (start_tag around n e)))
+pub says-branch : (around : Surroundings) (n : ℕ) (e : Element) → end_of (reading_as table.to_branch around n e) ≡
+    Some (ends.Branch (reference (start_tag around n e)))
 says-branch around n e = ap end_of (reading-as table.to_branch around n e)
 
 pub says-path : (around : Surroundings) (n : ℕ) (e : Element)
@@ -71,21 +79,24 @@ no-link-if [] is = refl
 no-link-if (t ∷ ts) [] = refl
 no-link-if (t ∷ ts) (i ∷ is) = refl
 
-pub no-end : (r : InstructionRow) (around : Surroundings) (n : ℕ) (e : Element) → end_of (reading_as (row_of_instruction r) around n e) ≡ None
+pub no-end : (r : InstructionRow) (around : Surroundings) (n : ℕ) (e : Element) → end_of (reading_as
+    (row_of_instruction r) around n e) ≡ None
 no-end row.Collect around n e = ap end_of (reading-as table.collect_formula around n e)
 no-end row.SetHouse around n e = ap end_of (reading-as table.set_house_event around n e)
 no-end row.Block around n e = ap end_of (reading-as table.block around n e)
 no-end row.Rule around n e = ap end_of (reading-as table.rule around n e)
 no-end row.If around n e = ap end_of (reading-as table.if_instruction around n e) ∙ no-end-if _ _
 
-pub no-test : (r : InstructionRow) (around : Surroundings) (n : ℕ) (e : Element) → test_of (reading_as (row_of_instruction r) around n e) ≡ None
+pub no-test : (r : InstructionRow) (around : Surroundings) (n : ℕ) (e : Element) → test_of (reading_as
+    (row_of_instruction r) around n e) ≡ None
 no-test row.Collect around n e = ap test_of (reading-as table.collect_formula around n e)
 no-test row.SetHouse around n e = ap test_of (reading-as table.set_house_event around n e)
 no-test row.Block around n e = ap test_of (reading-as table.block around n e)
 no-test row.Rule around n e = ap test_of (reading-as table.rule around n e)
 no-test row.If around n e = ap test_of (reading-as table.if_instruction around n e) ∙ no-test-if _ _
 
-pub no-link : (r : InstructionRow) (around : Surroundings) (n : ℕ) (e : Element) → link_of (reading_as (row_of_instruction r) around n e) ≡ None
+pub no-link : (r : InstructionRow) (around : Surroundings) (n : ℕ) (e : Element) → link_of (reading_as
+    (row_of_instruction r) around n e) ≡ None
 no-link row.Collect around n e = ap link_of (reading-as table.collect_formula around n e)
 no-link row.SetHouse around n e = ap link_of (reading-as table.set_house_event around n e)
 no-link row.Block around n e = ap link_of (reading-as table.block around n e)
@@ -93,21 +104,26 @@ no-link row.Rule around n e = ap link_of (reading-as table.rule around n e)
 no-link row.If around n e = ap link_of (reading-as table.if_instruction around n e) ∙ no-link-if _ _
 
 -- an end or a link is no instruction
-pub end-no-instruction : (r : EndRow) (around : Surroundings) (n : ℕ) (e : Element) → instruction_of (reading_as (row_of_end r) around n e) ≡ None
+pub end-no-instruction : (r : EndRow) (around : Surroundings) (n : ℕ) (e : Element) → instruction_of (reading_as
+    (row_of_end r) around n e) ≡ None
 end-no-instruction end_row.Fork around n e = ap instruction_of (reading-as table.fork around n e)
 end-no-instruction end_row.Sequence around n e = ap instruction_of (reading-as table.to_sequence around n e)
 end-no-instruction end_row.Branch around n e = ap instruction_of (reading-as table.to_branch around n e)
 
-pub link-no-instruction : (around : Surroundings) (n : ℕ) (e : Element) → instruction_of (reading_as table.to_event_tree around n e) ≡ None
+pub link-no-instruction : (around : Surroundings) (n : ℕ) (e : Element) → instruction_of (reading_as
+    table.to_event_tree around n e) ≡ None
 link-no-instruction around n e = ap instruction_of (reading-as table.to_event_tree around n e)
 
-pub says-link : (around : Surroundings) (n : ℕ) (e : Element) → link_of (reading_as table.to_event_tree around n e) ≡ Some (reference (start_tag around n e))
+pub says-link : (around : Surroundings) (n : ℕ) (e : Element) → link_of (reading_as table.to_event_tree around n e)
+    ≡ Some (reference (start_tag around n e))
 says-link around n e = ap link_of (reading-as table.to_event_tree around n e)
 
 -- ---- no instruction is a test
 
 test-found : (a b c d f : Bool) (around : Surroundings) (n : ℕ) (e : Element)
-    → test_of (reading_found (cond a (Some table.collect_formula) (cond b (Some table.set_house_event) (cond c (Some table.block) (cond d (Some table.rule) (cond f (Some table.if_instruction) None))))) around n e) ≡ None
+    → test_of (reading_found (cond a (Some table.collect_formula) (cond b (Some table.set_house_event) (cond c
+    (Some table.block) (cond d (Some table.rule) (cond f (Some table.if_instruction) None))))) around n e)
+    ≡ None
 test-found true b c d f around n e = no-test row.Collect around n e
 test-found false true c d f around n e = no-test row.SetHouse around n e
 test-found false false true d f around n e = no-test row.Block around n e
@@ -115,8 +131,10 @@ test-found false false false true f around n e = no-test row.Rule around n e
 test-found false false false false true around n e = no-test row.If around n e
 test-found false false false false false around n e = refl
 
-pub no-test-among : (around : Surroundings) (n : ℕ) (e : Element) → test_of (reading_among instructions around n e) ≡ None
+pub no-test-among : (around : Surroundings) (n : ℕ) (e : Element) → test_of (reading_among instructions around n e)
+    ≡ None
 unfolding reading_among
 no-test-among around n e =
-    test-found (has_tag (out-Element e).tag table.collect_formula) (has_tag (out-Element e).tag table.set_house_event) (has_tag (out-Element e).tag table.block)
+    test-found (has_tag (out-Element e).tag table.collect_formula) (has_tag (out-Element e).tag
+    table.set_house_event) (has_tag (out-Element e).tag table.block)
     (has_tag (out-Element e).tag table.rule) (has_tag (out-Element e).tag table.if_instruction) around n e

@@ -26,7 +26,11 @@ digit-value c h = let v : digit_value c + 48 ≡ c = digit_value_digit c h in om
 
 all-digits : (text : Text) → list_all is_ascii_digit text ≡ true → AllDigits 10 text
 all-digits [] h = tt
-all-digits (c ∷ cs) h = let parts = and_parts (is_ascii_digit c) (list_all is_ascii_digit cs) h in (digit-value c (is-digit c parts.0), all-digits cs parts.1)
+all-digits (c ∷ cs) h = let parts = and_parts (is_ascii_digit c) (list_all is_ascii_digit cs) h in (
+  digit-value c
+      (is-digit c parts.0),
+  all-digits cs parts.1,
+)
 
 no-plus : (text : Text) → AllDigits 10 text → without_leading_plus text ≡ text
 no-plus [] h = refl
@@ -35,7 +39,8 @@ no-plus (c ∷ cs) h =
     let other : (c == 43) ≡ false = grind (arith, nat_tests, range.0) in
     ap (λ (b : Bool). drop (cond b 1 0) (c ∷ cs)) other
 
-digits-read : {E : Type 0} (text : Text) (r : Result ℕ E) → are_digits text ≡ true → ParsesUnsigned 32 10 text r → result_unwrap_or r 0 ≡ digits_value 10 text
+digits-read : {E : Type 0} (text : Text) (r : Result ℕ E) → are_digits text ≡ true → ParsesUnsigned 32 10 text r →
+    result_unwrap_or r 0 ≡ digits_value 10 text
 digits-read {E} text r h read =
     let parts = and_parts (has_length_to MAX_DIGITS text) (list_all is_ascii_digit text) h in
     let bounds = and_parts (nat_le 1 (length text)) (nat_le (length text) MAX_DIGITS) parts.0 in
@@ -45,12 +50,17 @@ digits-read {E} text r h read =
     let few : length text ≤ 4 = grind (arith, nat_tests, bounds.1) in
     let small : digits_value 10 text < 10 ^ 4 = digits_value_short digits-model text 4 digits few in
     let P : Text → Type 0 = λ t. OkIff r (IsNumeral 10 t × (digits_value 10 t < 2 ^ 32)) (digits_value 10 t) in
-    ap (λ (o : Result ℕ E). result_unwrap_or o 0) (Ok-from_Ok_iff r _ _ (subst P same read) ((some, digits), omega arith))
+    ap (λ (o : Result ℕ E). result_unwrap_or o 0) (Ok-from_Ok_iff r _ _ (subst P same read) (
+      (some, digits),
+      omega
+          arith,
+    ))
 
 nothing-read : {E : Type 0} (r : Result ℕ E) → ParsesUnsigned 32 10 [] r → result_unwrap_or r 0 ≡ 0
 nothing-read (Ok x) read = let none : 0 < length (without_leading_plus []) = read.0.0.0 in absurd (omega arith)
 nothing-read (Err e) read = refl
 
-pub short-number : {E : Type 0} (o : Option Text) (r : Result ℕ E) → option_map_or are_digits o true ≡ true → ParsesUnsigned 32 10 (unwrap_or o []) r → result_unwrap_or r 0 ≡ digits_value 10 (unwrap_or o [])
+pub short-number : {E : Type 0} (o : Option Text) (r : Result ℕ E) → option_map_or are_digits o true ≡ true →
+    ParsesUnsigned 32 10 (unwrap_or o []) r → result_unwrap_or r 0 ≡ digits_value 10 (unwrap_or o [])
 short-number None r h read = nothing-read r read
 short-number (Some text) r h read = digits-read text r h read

@@ -40,7 +40,8 @@ reading_found (Some row) around number element = reading_as row around number el
 
 -- as the row among these that has its tag
 unfoldable pub reading_among : List Row → Surroundings → ℕ → Element → Reading
-reading_among rows around number element = reading_found (find (has_tag (out-Element element).tag) rows) around number element
+reading_among rows around number element = reading_found (find (has_tag (out-Element element).tag) rows) around
+    number element
 
 -- what elements say one after another, the first with this number
 abbrev pub readings_among : List Row → Surroundings → ℕ → List Element → List Reading

@@ -12,16 +12,33 @@ overflow_add-reader c =
 
 pub steps_part-requires : goal.steps_part-requires
 steps_part-requires c =
-    child-readable c.args.reader.now.number c.args.element.now c.as_slice-children.result.now c.loop-child.child-index c.child-item.result c.loop-child.reader.number c.requires c.as_slice-children.ensures c.loop-child.invariant.counted c.loop-child-test.true c.child-item.is
+    child-readable c.args.reader.now.number c.args.element.now c.as_slice-children.result.now
+    c.loop-child.child-index c.child-item.result c.loop-child.reader.number c.requires
+    c.as_slice-children.ensures c.loop-child.invariant.counted c.loop-child-test.true c.child-item.is
 
 pub loop-child-preserved : goal.loop-child-preserved
 loop-child-preserved c =
     record {
-      counted = counted-more (c.args.reader.now.number + 1) c.as_slice-children.result.now c.loop-child.child-index c.child-item.result c.loop-child.reader.number c.steps_part.new.reader.number c.loop-child.invariant.counted c.loop-child-test.true c.child-item.is c.in_ok-steps_part.ensures.counted;
-      said = c.in_ok-steps_part.ensures.said ∙ picked-more instruction_of (instructions ++ to_event_tree ∷ []) (around_of c.args.around.now) (c.args.reader.now.number + 1) c.as_slice-children.result.now c.loop-child.child-index c.child-item.result c.loop-child.reader.number c.loop-child.instructions (instruction_of (reading_among (instructions ++ to_event_tree ∷ []) (around_of c.args.around.now) c.loop-child.reader.number c.child-item.result)) c.loop-child.invariant.counted c.loop-child-test.true c.child-item.is c.loop-child.invariant.said refl;
-      linked = c.in_ok-steps_part.ensures.linked ∙ first-more link_of (instructions ++ to_event_tree ∷ []) (around_of c.args.around.now) (c.args.reader.now.number + 1) c.as_slice-children.result.now c.loop-child.child-index c.child-item.result c.loop-child.reader.number c.loop-child.link (link_of (reading_among (instructions ++ to_event_tree ∷ []) (around_of c.args.around.now) c.loop-child.reader.number c.child-item.result)) c.loop-child.invariant.counted c.loop-child-test.true c.child-item.is c.loop-child.invariant.linked refl;
+      counted = counted-more (c.args.reader.now.number + 1) c.as_slice-children.result.now c.loop-child.child-index
+          c.child-item.result c.loop-child.reader.number c.steps_part.new.reader.number
+          c.loop-child.invariant.counted c.loop-child-test.true c.child-item.is
+          c.in_ok-steps_part.ensures.counted;
+      said = c.in_ok-steps_part.ensures.said ∙ picked-more instruction_of (instructions ++ to_event_tree ∷ [])
+          (around_of c.args.around.now) (c.args.reader.now.number + 1) c.as_slice-children.result.now
+          c.loop-child.child-index c.child-item.result c.loop-child.reader.number c.loop-child.instructions
+          (instruction_of (reading_among (instructions ++ to_event_tree ∷ []) (around_of c.args.around.now)
+          c.loop-child.reader.number c.child-item.result)) c.loop-child.invariant.counted
+          c.loop-child-test.true c.child-item.is c.loop-child.invariant.said refl;
+      linked = c.in_ok-steps_part.ensures.linked ∙ first-more link_of (instructions ++ to_event_tree ∷ [])
+          (around_of c.args.around.now) (c.args.reader.now.number + 1) c.as_slice-children.result.now
+          c.loop-child.child-index c.child-item.result c.loop-child.reader.number c.loop-child.link (link_of
+          (reading_among (instructions ++ to_event_tree ∷ []) (around_of c.args.around.now)
+          c.loop-child.reader.number c.child-item.result)) c.loop-child.invariant.counted
+          c.loop-child-test.true c.child-item.is c.loop-child.invariant.linked refl;
     }
 
 pub returns-clause-counted : goal.returns-clause-counted
 returns-clause-counted c =
-    counted-all c.args.reader.now.number c.args.element.now c.as_slice-children.result.now c.loop-child.child-index c.loop-child.reader.number c.as_slice-children.ensures c.loop-child-test.false c.loop-child.invariant.counted
+    counted-all c.args.reader.now.number c.args.element.now c.as_slice-children.result.now c.loop-child.child-index
+    c.loop-child.reader.number c.as_slice-children.ensures c.loop-child-test.false
+    c.loop-child.invariant.counted

@@ -9,6 +9,8 @@ use Rattle.psa_drafts.proofs.bodies.steps_body.Given as goal
 abbrev pub invariant-loop-child : goal.invariant-loop-child
 invariant-loop-child l = record {
   counted : l.reader.number ≡ (l.fn.reader.number + 1) + sizes_of (take l.child-index l.children);
-  said : l.instructions ≡ instructions_in (readings_among (instructions ++ to_event_tree ∷ []) (around_of l.around) (l.fn.reader.number + 1) (take l.child-index l.children));
-  linked : l.link ≡ slice_get (filter_map link_of (readings_among (instructions ++ to_event_tree ∷ []) (around_of l.around) (l.fn.reader.number + 1) (take l.child-index l.children))) 0;
+  said : l.instructions ≡ instructions_in (readings_among (instructions ++ to_event_tree ∷ []) (around_of l.around)
+      (l.fn.reader.number + 1) (take l.child-index l.children));
+  linked : l.link ≡ slice_get (filter_map link_of (readings_among (instructions ++ to_event_tree ∷ []) (around_of
+      l.around) (l.fn.reader.number + 1) (take l.child-index l.children))) 0;
 }

@@ -9,5 +9,6 @@ use Rattle.psa_drafts.proofs.conditions.+condition.Given as goal
 abbrev pub invariant-conditions-loop-child : goal.invariant-conditions-loop-child
 invariant-conditions-loop-child l = record {
   counted : l.reader.number ≡ (l.fn.reader.number + 1) + sizes_of (take l.child-index l.children);
-  said : l.all ≡ filter_map test_of (readings_among tests (around_of l.around) (l.fn.reader.number + 1) (take l.child-index l.children));
+  said : l.all ≡ filter_map test_of (readings_among tests (around_of l.around) (l.fn.reader.number + 1) (take
+      l.child-index l.children));
 }

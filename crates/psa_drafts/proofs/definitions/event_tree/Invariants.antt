@@ -9,6 +9,8 @@ use Rattle.psa_drafts.proofs.definitions.event_tree.Given as goal
 abbrev pub invariant-loop-child : goal.invariant-loop-child
 invariant-loop-child l = record {
   counted : l.reader.number ≡ (l.fn.reader.number + 1) + sizes_of (take l.child-index l.children);
-  said : l.inside ≡ definitions_in (readings_among event_tree_rows (around_of l.inner) (l.fn.reader.number + 1) (take l.child-index l.children));
-  started : l.state ≡ slice_get (filter_map initial_state_of (readings_among event_tree_rows (around_of l.inner) (l.fn.reader.number + 1) (take l.child-index l.children))) 0;
+  said : l.inside ≡ definitions_in (readings_among event_tree_rows (around_of l.inner) (l.fn.reader.number + 1)
+      (take l.child-index l.children));
+  started : l.state ≡ slice_get (filter_map initial_state_of (readings_among event_tree_rows (around_of l.inner)
+      (l.fn.reader.number + 1) (take l.child-index l.children))) 0;
 }

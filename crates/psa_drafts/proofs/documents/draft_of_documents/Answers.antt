@@ -10,7 +10,8 @@ use Rattle.psa_drafts.proofs.documents.draft_of_documents.Goals as goal
 
 pub file_definitions-requires-clause-short : goal.file_definitions-requires-clause-short
 file_definitions-requires-clause-short c =
-    short-doc c.args.docs.now c.loop-place.place c.index-docs-place.result c.loop-place-test.true c.index-docs-place.is (short-roots (map (λ (d : Document). d.root) c.args.docs.now) c.requires.shaped)
+    short-doc c.args.docs.now c.loop-place.place c.index-docs-place.result c.loop-place-test.true
+    c.index-docs-place.is (short-roots (map (λ (d : Document). d.root) c.args.docs.now) c.requires.shaped)
 
 pub file_definitions-requires-clause-few : goal.file_definitions-requires-clause-few
 file_definitions-requires-clause-few c =
@@ -20,4 +21,6 @@ file_definitions-requires-clause-few c =
 
 pub loop-place-preserved : goal.loop-place-preserved
 loop-place-preserved c =
-    c.in_ok-file_definitions.ensures ∙ ap (λ (ds : List DraftDefinition). ds ++ reading.file_definitions (c.loop-place.place, c.index-docs-place.result.root)) c.loop-place.invariant ∙ sym (files-more c.args.docs.now c.loop-place.place c.index-docs-place.result c.loop-place-test.true c.index-docs-place.is)
+    c.in_ok-file_definitions.ensures ∙ ap (λ (ds : List DraftDefinition). ds ++ reading.file_definitions
+    (c.loop-place.place, c.index-docs-place.result.root)) c.loop-place.invariant ∙ sym (files-more
+    c.args.docs.now c.loop-place.place c.index-docs-place.result c.loop-place-test.true c.index-docs-place.is)

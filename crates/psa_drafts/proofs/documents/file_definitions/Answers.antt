@@ -19,7 +19,11 @@ definitions_in-requires c =
 
 pub returns : goal.returns
 returns c =
-    let P : List DraftDefinition → Type 0 = λ (ds : List DraftDefinition). OnOk c.definitions_in.result (c.definitions_in.new.all ≡ ds) in
-    subst P (ap (λ (k : List Text). c.args.all.now ++ reading.definitions_in (readings_among in_root (file_around c.args.file k) 1 c.as_slice-children.result.now)) c.new.ensures
-    ∙ ap (λ (es : List Element). c.args.all.now ++ reading.definitions_in (readings_among in_root (reading.whole_file c.args.file) 1 es)) c.as_slice-children.ensures
-    ∙ ap (λ (ds : List DraftDefinition). c.args.all.now ++ ds) (sym (says-file c.args.file c.args.root.now))) c.definitions_in.ensures.said
+    let P : List DraftDefinition → Type 0 = λ (ds : List DraftDefinition). OnOk c.definitions_in.result
+    (c.definitions_in.new.all ≡ ds) in
+    subst P (ap (λ (k : List Text). c.args.all.now ++ reading.definitions_in (readings_among in_root (file_around
+    c.args.file k) 1 c.as_slice-children.result.now)) c.new.ensures
+    ∙ ap (λ (es : List Element). c.args.all.now ++ reading.definitions_in (readings_among in_root
+    (reading.whole_file c.args.file) 1 es)) c.as_slice-children.ensures
+    ∙ ap (λ (ds : List DraftDefinition). c.args.all.now ++ ds) (sym (says-file c.args.file c.args.root.now)))
+    c.definitions_in.ensures.said

@@ -8,5 +8,6 @@ use Rattle.psa_drafts.proofs.expressions.+expression.Given as goal
 abbrev pub invariant-operation-loop-child : goal.invariant-operation-loop-child
 invariant-operation-loop-child l = record {
   counted : l.reader.number ≡ (l.fn.reader.number + 1) + sizes_of (take l.child-index l.children);
-  said : l.arguments ≡ expressions_in (readings_among expressions (around_of l.around) (l.fn.reader.number + 1) (take l.child-index l.children));
+  said : l.arguments ≡ expressions_in (readings_among expressions (around_of l.around) (l.fn.reader.number + 1)
+      (take l.child-index l.children));
 }

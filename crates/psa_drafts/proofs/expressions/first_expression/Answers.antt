@@ -11,19 +11,32 @@ overflow_add-reader c =
 
 pub expression-requires : goal.expression-requires
 expression-requires c =
-    child-readable c.args.reader.now.number c.args.element.now c.as_slice-children.result.now c.loop-child.child-index c.child-item.result c.loop-child.reader.number c.requires c.as_slice-children.ensures c.loop-child.invariant.counted c.loop-child-test.true c.child-item.is
+    child-readable c.args.reader.now.number c.args.element.now c.as_slice-children.result.now
+    c.loop-child.child-index c.child-item.result c.loop-child.reader.number c.requires
+    c.as_slice-children.ensures c.loop-child.invariant.counted c.loop-child-test.true c.child-item.is
 
 pub loop-child-preserved : goal.loop-child-preserved
 loop-child-preserved c =
     record {
-      counted = counted-more (c.args.reader.now.number + 1) c.as_slice-children.result.now c.loop-child.child-index c.child-item.result c.loop-child.reader.number c.expression.new.reader.number c.loop-child.invariant.counted c.loop-child-test.true c.child-item.is c.in_ok-found.ensures.counted;
-      said = c.keep_first.ensures ∙ first-more expression_of expressions (around_of c.args.around.now) (c.args.reader.now.number + 1) c.as_slice-children.result.now c.loop-child.child-index c.child-item.result c.loop-child.reader.number c.loop-child.first c.in_ok-found.found c.loop-child.invariant.counted c.loop-child-test.true c.child-item.is c.loop-child.invariant.said c.in_ok-found.ensures.said;
+      counted = counted-more (c.args.reader.now.number + 1) c.as_slice-children.result.now c.loop-child.child-index
+          c.child-item.result c.loop-child.reader.number c.expression.new.reader.number
+          c.loop-child.invariant.counted c.loop-child-test.true c.child-item.is c.in_ok-found.ensures.counted;
+      said = c.keep_first.ensures ∙ first-more expression_of expressions (around_of c.args.around.now)
+          (c.args.reader.now.number + 1) c.as_slice-children.result.now c.loop-child.child-index
+          c.child-item.result c.loop-child.reader.number c.loop-child.first c.in_ok-found.found
+          c.loop-child.invariant.counted c.loop-child-test.true c.child-item.is c.loop-child.invariant.said
+          c.in_ok-found.ensures.said;
     }
 
 pub returns-clause-counted : goal.returns-clause-counted
 returns-clause-counted c =
-    counted-all c.args.reader.now.number c.args.element.now c.as_slice-children.result.now c.loop-child.child-index c.loop-child.reader.number c.as_slice-children.ensures c.loop-child-test.false c.loop-child.invariant.counted
+    counted-all c.args.reader.now.number c.args.element.now c.as_slice-children.result.now c.loop-child.child-index
+    c.loop-child.reader.number c.as_slice-children.ensures c.loop-child-test.false
+    c.loop-child.invariant.counted
 
 pub returns-clause-said : goal.returns-clause-said
 returns-clause-said c =
-    c.loop-child.invariant.said ∙ ap (λ (rs : List Reading). slice_get (expressions_in rs) 0) (inside-all expressions (around_of c.args.around.now) c.args.reader.now.number c.args.element.now c.as_slice-children.result.now c.loop-child.child-index c.as_slice-children.ensures c.loop-child-test.false)
+    c.loop-child.invariant.said ∙ ap (λ (rs : List Reading). slice_get (expressions_in rs) 0) (inside-all
+    expressions (around_of c.args.around.now) c.args.reader.now.number c.args.element.now
+    c.as_slice-children.result.now c.loop-child.child-index c.as_slice-children.ensures
+    c.loop-child-test.false)

@@ -8,5 +8,6 @@ use Rattle.psa_drafts.proofs.formulas.+formula.Given as goal
 abbrev pub invariant-connective-loop-child : goal.invariant-connective-loop-child
 invariant-connective-loop-child l = record {
   counted : l.reader.number ≡ (l.fn.reader.number + 1) + sizes_of (take l.child-index l.children);
-  said : l.arguments ≡ formulas_in (readings_among formulas (around_of l.around) (l.fn.reader.number + 1) (take l.child-index l.children));
+  said : l.arguments ≡ formulas_in (readings_among formulas (around_of l.around) (l.fn.reader.number + 1) (take
+      l.child-index l.children));
 }

@@ -8,5 +8,6 @@ use Rattle.psa_drafts.proofs.formulas.formula_in.Given as goal
 abbrev pub invariant-loop-child : goal.invariant-loop-child
 invariant-loop-child l = record {
   counted : l.reader.number ≡ (l.fn.reader.number + 1) + sizes_of (take l.child-index l.children);
-  said : l.first ≡ slice_get (formulas_in (readings_among formulas (around_of l.around) (l.fn.reader.number + 1) (take l.child-index l.children))) 0;
+  said : l.first ≡ slice_get (formulas_in (readings_among formulas (around_of l.around) (l.fn.reader.number + 1)
+      (take l.child-index l.children))) 0;
 }

@@ -8,5 +8,6 @@ use Rattle.psa_drafts.proofs.formulas.state_in.Given as goal
 abbrev pub invariant-loop-child : goal.invariant-loop-child
 invariant-loop-child l = record {
   counted : l.reader.number ≡ (l.fn.reader.number + 1) + sizes_of (take l.child-index l.children);
-  said : l.state ≡ state_in (readings_among (constant ∷ []) (around_of l.around) (l.fn.reader.number + 1) (take l.child-index l.children));
+  said : l.state ≡ state_in (readings_among (constant ∷ []) (around_of l.around) (l.fn.reader.number + 1) (take
+      l.child-index l.children));
 }

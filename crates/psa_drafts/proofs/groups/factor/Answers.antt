@@ -14,6 +14,11 @@ level_in-level-requires c =
 
 pub returns-clause-said : goal.returns-clause-said
 returns-clause-said c =
-    ap (λ (o : Option ℕ). some_factors (record { level = o; expression = c.in_ok-expression_in.field-0 } ∷ [])) c.level_in-level.ensures
-    ∙ ap (λ (x : DraftExpression). some_factors (record { level = level_in (start_tag (around_of c.args.around.now) c.args.reader.now.number c.args.element.now); expression = x } ∷ [])) c.in_ok-expression_in.ensures.said
+    ap (λ (o : Option ℕ). some_factors (record { level = o; expression = c.in_ok-expression_in.field-0 } ∷ []))
+    c.level_in-level.ensures
+    ∙ ap (λ (x : DraftExpression). some_factors (record {
+      level = level_in (start_tag (around_of c.args.around.now)
+          c.args.reader.now.number c.args.element.now);
+      expression = x;
+    } ∷ [])) c.in_ok-expression_in.ensures.said
     ∙ sym (says.says-factor (around_of c.args.around.now) c.args.reader.now.number c.args.element.now)

@@ -9,5 +9,6 @@ use Rattle.psa_drafts.proofs.groups.factors.Given as goal
 abbrev pub invariant-loop-child : goal.invariant-loop-child
 invariant-loop-child l = record {
   counted : l.reader.number ≡ (l.fn.reader.number + 1) + sizes_of (take l.child-index l.children);
-  said : l.all ≡ l.fn.all ++ flat_map factors_of (readings_among (factor ∷ []) (around_of l.around) (l.fn.reader.number + 1) (take l.child-index l.children));
+  said : l.all ≡ l.fn.all ++ flat_map factors_of (readings_among (factor ∷ []) (around_of l.around)
+      (l.fn.reader.number + 1) (take l.child-index l.children));
 }

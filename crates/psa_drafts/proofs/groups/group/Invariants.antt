@@ -9,7 +9,10 @@ use Rattle.psa_drafts.proofs.groups.group.Given as goal
 abbrev pub invariant-loop-child : goal.invariant-loop-child
 invariant-loop-child l = record {
   counted : l.reader.number ≡ (l.fn.reader.number + 1) + sizes_of (take l.child-index l.children);
-  members : l.all_members ≡ flat_map members_of (readings_among group_rows (around_of l.around) (l.fn.reader.number + 1) (take l.child-index l.children));
-  distributed : l.distribution ≡ slice_get (filter_map distribution_of (readings_among group_rows (around_of l.around) (l.fn.reader.number + 1) (take l.child-index l.children))) 0;
-  factored : l.all_factors ≡ flat_map factors_of (readings_among group_rows (around_of l.around) (l.fn.reader.number + 1) (take l.child-index l.children));
+  members : l.all_members ≡ flat_map members_of (readings_among group_rows (around_of l.around) (l.fn.reader.number
+      + 1) (take l.child-index l.children));
+  distributed : l.distribution ≡ slice_get (filter_map distribution_of (readings_among group_rows (around_of
+      l.around) (l.fn.reader.number + 1) (take l.child-index l.children))) 0;
+  factored : l.all_factors ≡ flat_map factors_of (readings_among group_rows (around_of l.around)
+      (l.fn.reader.number + 1) (take l.child-index l.children));
 }

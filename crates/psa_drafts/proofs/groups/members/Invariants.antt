@@ -8,5 +8,6 @@ use Rattle.psa_drafts.proofs.groups.members.Given as goal
 abbrev pub invariant-loop-child : goal.invariant-loop-child
 invariant-loop-child l = record {
   counted : l.reader.number ≡ (l.fn.reader.number + 1) + sizes_of (take l.child-index l.children);
-  said : l.all ≡ l.fn.all ++ members_in (readings_among (basic_event ∷ []) (around_of l.around) (l.fn.reader.number + 1) (take l.child-index l.children));
+  said : l.all ≡ l.fn.all ++ members_in (readings_among (basic_event ∷ []) (around_of l.around) (l.fn.reader.number
+      + 1) (take l.child-index l.children));
 }
