@@ -12,23 +12,28 @@ use Rattle.psa_drafts.specs.Rows.{row_of_test}
 use Rattle.psa_drafts.specs.Sayings.{start_tag, reading_as, inside_among}
 use Rattle.psa_drafts.proofs.Readings.{reading-as}
 
+-- what an element of this row says: initiating
 pub says-initiating : (around : Surroundings) (n : ℕ) (e : Element) → test_of (reading_as
     table.test_initiating_event around n e) ≡ Some (condition.Initiating (reference (start_tag around n e)))
 says-initiating around n e = ap test_of (reading-as table.test_initiating_event around n e)
 
+-- what an element of this row says: functional
 pub says-functional : (around : Surroundings) (n : ℕ) (e : Element)
     → test_of (reading_as table.test_functional_event around n e) ≡ Some (condition.Functional (reference
     (start_tag around n e)) (text_in (start_tag around n e) (codes "state")))
 says-functional around n e = ap test_of (reading-as table.test_functional_event around n e)
 
+-- what an element of this row says: all
 pub says-all : (around : Surroundings) (n : ℕ) (e : Element) → test_of (reading_as table.all_tests around n e) ≡
     Some (condition.All (filter_map test_of (inside_among tests around n e)))
 says-all around n e = ap test_of (reading-as table.all_tests around n e)
 
+-- what an element of this row says: any
 pub says-any : (around : Surroundings) (n : ℕ) (e : Element) → test_of (reading_as table.any_test around n e) ≡
     Some (condition.Any (filter_map test_of (inside_among tests around n e)))
 says-any around n e = ap test_of (reading-as table.any_test around n e)
 
+-- what an element of this row says: not
 pub says-not : (around : Surroundings) (n : ℕ) (e : Element) → test_of (reading_as table.not_test around n e) ≡
     Some (condition.Not (filter_map test_of (inside_among tests around n e)))
 says-not around n e = ap test_of (reading-as table.not_test around n e)

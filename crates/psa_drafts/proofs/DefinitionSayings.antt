@@ -105,6 +105,7 @@ plain-reading plain.Sequence start inside = refl
 plain-reading plain.Branch start inside = refl
 plain-reading plain.Rule start inside = refl
 
+-- what an element of this row says: plain
 pub says-plain : (row : PlainRow) (around : Surroundings) (n : ℕ) (e : Element)
     → reading_as (row_of_plain row) around n e
     ≡ some_definitions (record (defines (kind_of row) (start_tag around n e) (body_of row (start_tag around n e)
@@ -122,6 +123,7 @@ says-plain row around n e =
 
 -- ---- definitions around others
 
+-- what an element of this row says: model data
 pub says-model_data : (around : Surroundings) (n : ℕ) (e : Element)
     → reading_as table.model_data around n e ≡ some_definitions (definitions_in (inside_among model_data_rows
     around n e))
@@ -130,6 +132,7 @@ says-model_data around n e =
     ∙ ap (λ (inside : List Reading). some_definitions (definitions_in inside)) (unlabelled model_data_rows around
     (n + 1) (out-Element e).children refl refl)
 
+-- what an element of this row says: root
 pub says-root : (around : Surroundings) (n : ℕ) (e : Element)
     → reading_as table.opsa_mef around n e ≡ some_definitions (definitions_in (inside_among in_root around n e))
 says-root around n e =
@@ -137,6 +140,7 @@ says-root around n e =
     ∙ ap (λ (inside : List Reading). some_definitions (definitions_in inside)) (unlabelled in_root around (n + 1)
     (out-Element e).children refl refl)
 
+-- what an element of this row says: fault tree
 pub says-fault_tree : (around : Surroundings) (n : ℕ) (e : Element)
     → reading_as table.define_fault_tree around n e
     ≡ before_others (defines kind.FaultTree (start_tag around n e) body.Nothing)
@@ -147,6 +151,7 @@ says-fault_tree around n e =
     (unlabelled in_container (record around { container = own_name (start_tag around n e) ∷ [] }) (n + 1)
     (out-Element e).children refl refl)
 
+-- what an element of this row says: component
 pub says-component : (around : Surroundings) (n : ℕ) (e : Element)
     → reading_as table.define_component around n e
     ≡ before_others (defines_by_role kind.Component (start_tag around n e) body.Nothing)
@@ -177,6 +182,7 @@ silent-row row around n e = (
       (says-plain row around n e),
 )
 
+-- what an element of this row says: initial
 pub says-initial : (around : Surroundings) (n : ℕ) (e : Element)
     → reading_as table.initial_state around n e ≡ an_initial_state (branch_in (start_tag around n e) (inside_among
     (instructions ++ ends) around n e))
@@ -233,6 +239,7 @@ no-ends around n (e ∷ es) =
 abbrev pub around_in : Surroundings → ℕ → Element → Surroundings
 around_in around n e = record around { container = own_name (start_tag around n e) ∷ [] }
 
+-- what an element of this row says: event tree
 pub says-event_tree : (around : Surroundings) (n : ℕ) (e : Element)
     → reading_as table.define_event_tree around n e
     ≡ before_others (defines kind.EventTree (start_tag around n e)
@@ -274,6 +281,7 @@ plain-said row around n e its its_body private (Ok d) its_is body_is private_is 
 
 -- ---- a container and the definitions inside it, behind those before
 
+-- a fault tree before the definitions inside it
 pub fault_tree-said : (around : Surroundings) (n : ℕ) (e : Element) (all : List DraftDefinition) (own :
     DraftDefinition) (inner : Surroundings) (cs : List Element)
     → own ≡ record (defines kind.FaultTree (start_tag around n e) body.Nothing) { private = false }
@@ -292,6 +300,7 @@ fault_tree-said around n e all own inner cs own_is inner_is cs_is =
     }) (n + 1) es))) cs_is
     ∙ ap (λ (r : Reading). all ++ definitions_of r) (sym (says-fault_tree around n e))
 
+-- a component before the definitions inside it
 pub component-said : (around : Surroundings) (n : ℕ) (e : Element) (all : List DraftDefinition) (own :
     DraftDefinition) (private : Bool) (inner : Surroundings) (cs : List Element)
     → own ≡ record (defines kind.Component (start_tag around n e) body.Nothing) { private = private } → private ≡
@@ -322,6 +331,7 @@ component-said around n e all own private inner cs own_is private_is inner_is cs
     }) (n + 1) es))) cs_is
     ∙ ap (λ (r : Reading). all ++ definitions_of r) (sym (says-component around n e))
 
+-- an event tree before the definitions inside it
 pub tree-said : (around : Surroundings) (n : ℕ) (e : Element) (all inside : List DraftDefinition) (own :
     DraftDefinition) (walk : DraftBranch) (state : Option DraftBranch)
     → own ≡ record (defines kind.EventTree (start_tag around n e) (body.Walk walk)) { private = false }

@@ -54,6 +54,7 @@ root-readable e small short = record { fits = omega (arith, size-out e); short =
 
 -- ---- files
 
+-- what a file says
 pub says-file : (file : ℕ) (e : Element) → file_definitions (file, e) ≡ definitions_in (inside_among in_root
     (whole_file file) 0 e)
 unfolding reading_as
@@ -66,6 +67,7 @@ enumerate-append n (y ∷ ys) x =
     ap (λ (more : List (ℕ × Element)). (n, y) ∷ more)
     (enumerate-append (n + 1) ys x ∙ ap (λ (m : ℕ). enumerate_from (n + 1) ys ++ (m, x) ∷ []) (omega arith))
 
+-- one more file says its definitions behind those before
 pub files-more : (docs : List Document) (i : ℕ) (d : Document) → i < length docs → d ≡ get_or docs i d
     → flat_map file_definitions (enumerate_from 0 (map (λ (doc : Document). doc.root) (take (i + 1) docs)))
     ≡ flat_map file_definitions (enumerate_from 0 (map (λ (doc : Document). doc.root) (take i docs))) ++
@@ -91,6 +93,7 @@ files-more docs i d l d_is =
 
 -- ---- facts of each document
 
+-- the numbers in each document have few digits
 pub short-doc : (docs : List Document) (i : ℕ) (d : Document) → i < length docs → d ≡ get_or docs i d
     → list_all (λ (root : Element). list_all are_short (out-Element root).children) (map (λ (doc : Document).
     doc.root) docs) ≡ true

@@ -18,6 +18,7 @@ rows-operator operation.Mul = refl
 rows-operator operation.Div = refl
 rows-operator operation.Exponential = refl
 
+-- what an element of this row says: operation
 pub says-operation : (operator : ExpressionOperator) (around : Surroundings) (n : ℕ) (e : Element)
     → expression_of (reading_as (table.operator operator) around n e) ≡ Some (expression.Operation operator
     (expressions_in (inside_among expressions around n e)))
@@ -26,18 +27,22 @@ says-operation operator around n e =
     ∙ ap (λ rows. Some (expression.Operation operator (expressions_in (inside_among rows around n e))))
     (rows-operator operator)
 
+-- what an element of this row says: float
 pub says-float : (around : Surroundings) (n : ℕ) (e : Element) → expression_of (reading_as table.float around n e)
     ≡ Some (expression.Number (decimal_in (start_tag around n e)))
 says-float around n e = ap expression_of (reading-as table.float around n e)
 
+-- what an element of this row says: int
 pub says-int : (around : Surroundings) (n : ℕ) (e : Element) → expression_of (reading_as table.int around n e) ≡
     Some (expression.Number (decimal_in (start_tag around n e)))
 says-int around n e = ap expression_of (reading-as table.int around n e)
 
+-- what an element of this row says: parameter
 pub says-parameter : (around : Surroundings) (n : ℕ) (e : Element) → expression_of (reading_as table.parameter
     around n e) ≡ Some (expression.Parameter (reference (start_tag around n e)))
 says-parameter around n e = ap expression_of (reading-as table.parameter around n e)
 
+-- what an element of this row says: mission time
 pub says-mission_time : (around : Surroundings) (n : ℕ) (e : Element) → expression_of (reading_as
     table.mission_time around n e) ≡ Some expression.MissionTime
 says-mission_time around n e = ap expression_of (reading-as table.mission_time around n e)

@@ -39,6 +39,7 @@ rows-connective Imply = refl
 rows-connective Atleast = refl
 rows-connective Cardinality = refl
 
+-- what a connective says
 pub says-connective : (operator : Connective) (around : Surroundings) (n : ℕ) (e : Element)
     → formula_of (reading_as (table.connective operator) around n e)
     ≡ Some (formula.Connective operator (least_of operator (start_tag around n e)) (most_of operator (start_tag
@@ -49,6 +50,7 @@ says-connective operator around n e =
     (start_tag around n e)) (formulas_in (inside_among rows around n e))))
     (rows-connective operator)
 
+-- what an event says
 pub says-event : (its : EventKind) (around : Surroundings) (n : ℕ) (e : Element)
     → formula_of (reading_as (row_of_formula (Event its)) around n e) ≡ Some (event_as its (start_tag around n e))
 says-event asked.Gate around n e = ap formula_of (reading-as table.gate around n e)
@@ -56,6 +58,7 @@ says-event asked.Basic around n e = ap formula_of (reading-as table.basic_event 
 says-event asked.House around n e = ap formula_of (reading-as table.house_event around n e)
 says-event asked.Any around n e = ap formula_of (reading-as table.event around n e)
 
+-- what a constant says
 pub says-constant : (around : Surroundings) (n : ℕ) (e : Element)
     → formula_of (reading_as table.constant around n e) ≡ Some (formula.Constant (has_value (start_tag around n e)
     (codes "value") (codes "true")))
@@ -81,6 +84,7 @@ constant-state around n e tag tag_is is =
     ∙ ap (λ (r : Reading). state_in (r ∷ [])) (sym (among-known (table.constant ∷ []) around n e tag (Some
     table.constant) tag_is (one-row table.constant tag is) ∙ reading-as table.constant around n e))
 
+-- an element that is no constant says no state
 pub no-state : (around : Surroundings) (n : ℕ) (e : Element) (tag : Text) → tag ≡ (out-Element e).tag → bytes_eq
     tag (codes "constant") ≡ false
     → false ≡ state_in (reading_among (table.constant ∷ []) around n e ∷ [])
@@ -112,5 +116,6 @@ state-more rows around first cs i x n so_far found n_is l x_is so_far_is found_i
 pub taken : (before found after : Bool) → before ≡ true → after ≡ before → after ≡ (before || found)
 taken before found after h is = is ∙ h ∙ ap (λ (b : Bool). b || found) (sym h)
 
+-- a state that does not stand yet, and one that is found
 pub passed : (before found after : Bool) → before ≡ false → after ≡ found → after ≡ (before || found)
 passed before found after h is = is ∙ ap (λ (b : Bool). b || found) (sym h)

@@ -28,18 +28,22 @@ out-event : (its : EventKind) (name : DraftReference) → out-DraftFormula (form
 out-event its name = ap out-DraftFormula (sym (formula.rolls-Event its name)) ∙ out-roll-DraftFormula
     (DraftFormula-F.Event its name)
 
+-- what an element of this row says: members
 pub says-members : (around : Surroundings) (n : ℕ) (e : Element) → reading_as table.members around n e ≡
     some_members (members_in (inside_among (table.basic_event ∷ []) around n e))
 says-members around n e = reading-as table.members around n e
 
+-- what an element of this row says: distribution
 pub says-distribution : (around : Surroundings) (n : ℕ) (e : Element) → reading_as table.distribution around n e ≡
     a_distribution (expression_in (inside_among expressions around n e))
 says-distribution around n e = reading-as table.distribution around n e
 
+-- what an element of this row says: factors
 pub says-factors : (around : Surroundings) (n : ℕ) (e : Element) → reading_as table.factors around n e ≡
     some_factors (flat_map factors_of (inside_among (table.factor ∷ []) around n e))
 says-factors around n e = reading-as table.factors around n e
 
+-- what an element of this row says: factor
 pub says-factor : (around : Surroundings) (n : ℕ) (e : Element)
     → reading_as table.factor around n e ≡ some_factors (record {
       level = level_in (start_tag around n e);
@@ -93,6 +97,7 @@ says-member around n e tag tag_is is =
     ∙ ap (λ (r : Reading). members_in (r ∷ [])) (sym (among-known (table.basic_event ∷ []) around n e tag (Some
     table.basic_event) tag_is (one-row table.basic_event tag is) ∙ reading-as table.basic_event around n e))
 
+-- an element that is no basic event names no member
 pub no-member : (around : Surroundings) (n : ℕ) (e : Element) (tag : Text) → tag ≡ (out-Element e).tag → bytes_eq
     tag (codes "basic-event") ≡ false
     → [] ≡ members_in (reading_among (table.basic_event ∷ []) around n e ∷ [])

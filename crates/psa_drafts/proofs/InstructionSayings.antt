@@ -18,42 +18,51 @@ use Rattle.psa_drafts.specs.Rows.{row_of_instruction, row_of_end}
 use Rattle.psa_drafts.specs.Sayings.{start_tag, reading_as, reading_found, reading_among, inside_among}
 use Rattle.psa_drafts.proofs.Readings.{reading-as}
 
+-- what an element of this row says: collect
 pub says-collect : (around : Surroundings) (n : ℕ) (e : Element) → instruction_of (reading_as table.collect_formula
     around n e) ≡ Some (instruction.Collect (formula_in (inside_among formulas around n e)))
 says-collect around n e = ap instruction_of (reading-as table.collect_formula around n e)
 
+-- what an element of this row says: set
 pub says-set : (around : Surroundings) (n : ℕ) (e : Element)
     → instruction_of (reading_as table.set_house_event around n e) ≡ Some (instruction.SetHouse (reference
     (start_tag around n e)) (state_in (inside_among (constant ∷ []) around n e)))
 says-set around n e = ap instruction_of (reading-as table.set_house_event around n e)
 
+-- what an element of this row says: block
 pub says-block : (around : Surroundings) (n : ℕ) (e : Element) → instruction_of (reading_as table.block around n e)
     ≡ Some (instruction.Block (instructions_in (inside_among instructions around n e)))
 says-block around n e = ap instruction_of (reading-as table.block around n e)
 
+-- what an element of this row says: rule
 pub says-rule : (around : Surroundings) (n : ℕ) (e : Element) → instruction_of (reading_as table.rule around n e) ≡
     Some (instruction.Rule (reference (start_tag around n e)))
 says-rule around n e = ap instruction_of (reading-as table.rule around n e)
 
+-- what an element of this row says: if
 pub says-if : (around : Surroundings) (n : ℕ) (e : Element)
     → instruction_of (reading_as table.if_instruction around n e)
     ≡ instruction_of (conditional (filter_map test_of (inside_among (tests ++ instructions) around n e))
     (instructions_in (inside_among (tests ++ instructions) around n e)))
 says-if around n e = ap instruction_of (reading-as table.if_instruction around n e)
 
+-- what an element of this row says: fork
 pub says-fork : (around : Surroundings) (n : ℕ) (e : Element)
     → end_of (reading_as table.fork around n e) ≡ Some (ends.Fork (reference_by (codes "functional-event")
     (start_tag around n e)) (filter_map path_of (inside_among (path ∷ []) around n e)))
 says-fork around n e = ap end_of (reading-as table.fork around n e)
 
+-- what an element of this row says: sequence
 pub says-sequence : (around : Surroundings) (n : ℕ) (e : Element) → end_of (reading_as table.to_sequence around n
     e) ≡ Some (ends.Sequence (reference (start_tag around n e)))
 says-sequence around n e = ap end_of (reading-as table.to_sequence around n e)
 
+-- what an element of this row says: branch
 pub says-branch : (around : Surroundings) (n : ℕ) (e : Element) → end_of (reading_as table.to_branch around n e) ≡
     Some (ends.Branch (reference (start_tag around n e)))
 says-branch around n e = ap end_of (reading-as table.to_branch around n e)
 
+-- what an element of this row says: path
 pub says-path : (around : Surroundings) (n : ℕ) (e : Element)
     → path_of (reading_as table.path around n e) ≡ Some (record {
       state = text_in (start_tag around n e) (codes "state");
@@ -79,6 +88,7 @@ no-link-if [] is = refl
 no-link-if (t ∷ ts) [] = refl
 no-link-if (t ∷ ts) (i ∷ is) = refl
 
+-- an instruction is no end of a branch
 pub no-end : (r : InstructionRow) (around : Surroundings) (n : ℕ) (e : Element) → end_of (reading_as
     (row_of_instruction r) around n e) ≡ None
 no-end row.Collect around n e = ap end_of (reading-as table.collect_formula around n e)
@@ -87,6 +97,7 @@ no-end row.Block around n e = ap end_of (reading-as table.block around n e)
 no-end row.Rule around n e = ap end_of (reading-as table.rule around n e)
 no-end row.If around n e = ap end_of (reading-as table.if_instruction around n e) ∙ no-end-if _ _
 
+-- an instruction is no test
 pub no-test : (r : InstructionRow) (around : Surroundings) (n : ℕ) (e : Element) → test_of (reading_as
     (row_of_instruction r) around n e) ≡ None
 no-test row.Collect around n e = ap test_of (reading-as table.collect_formula around n e)
@@ -95,6 +106,7 @@ no-test row.Block around n e = ap test_of (reading-as table.block around n e)
 no-test row.Rule around n e = ap test_of (reading-as table.rule around n e)
 no-test row.If around n e = ap test_of (reading-as table.if_instruction around n e) ∙ no-test-if _ _
 
+-- an instruction is no link
 pub no-link : (r : InstructionRow) (around : Surroundings) (n : ℕ) (e : Element) → link_of (reading_as
     (row_of_instruction r) around n e) ≡ None
 no-link row.Collect around n e = ap link_of (reading-as table.collect_formula around n e)
@@ -110,10 +122,12 @@ end-no-instruction end_row.Fork around n e = ap instruction_of (reading-as table
 end-no-instruction end_row.Sequence around n e = ap instruction_of (reading-as table.to_sequence around n e)
 end-no-instruction end_row.Branch around n e = ap instruction_of (reading-as table.to_branch around n e)
 
+-- a link is no instruction
 pub link-no-instruction : (around : Surroundings) (n : ℕ) (e : Element) → instruction_of (reading_as
     table.to_event_tree around n e) ≡ None
 link-no-instruction around n e = ap instruction_of (reading-as table.to_event_tree around n e)
 
+-- what an element of this row says: link
 pub says-link : (around : Surroundings) (n : ℕ) (e : Element) → link_of (reading_as table.to_event_tree around n e)
     ≡ Some (reference (start_tag around n e))
 says-link around n e = ap link_of (reading-as table.to_event_tree around n e)
@@ -131,6 +145,7 @@ test-found false false false true f around n e = no-test row.Rule around n e
 test-found false false false false true around n e = no-test row.If around n e
 test-found false false false false false around n e = refl
 
+-- nothing among the instructions is a test
 pub no-test-among : (around : Surroundings) (n : ℕ) (e : Element) → test_of (reading_among instructions around n e)
     ≡ None
 unfolding reading_among

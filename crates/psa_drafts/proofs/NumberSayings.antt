@@ -60,6 +60,7 @@ nothing-read : {E : Type 0} (r : Result ℕ E) → ParsesUnsigned 32 10 [] r →
 nothing-read (Ok x) read = let none : 0 < length (without_leading_plus []) = read.0.0.0 in absurd (omega arith)
 nothing-read (Err e) read = refl
 
+-- the number that `parse` reads from the value of an attribute
 pub short-number : {E : Type 0} (o : Option Text) (r : Result ℕ E) → option_map_or are_digits o true ≡ true →
     ParsesUnsigned 32 10 (unwrap_or o []) r → result_unwrap_or r 0 ≡ digits_value 10 (unwrap_or o [])
 short-number None r h read = nothing-read r read

@@ -20,6 +20,7 @@ sizes-append [] ys = omega arith
 sizes-append (x ∷ xs) ys = let more : sizes_of (xs ++ ys) ≡ sizes_of xs + sizes_of ys = sizes-append xs ys in omega
     arith
 
+-- elements behind others say what they say behind them
 pub readings-append : (rows : List Row) (around : Surroundings) (n : ℕ) (xs ys : List Element)
     → readings_among rows around n (xs ++ ys) ≡ readings_among rows around n xs ++ readings_among rows around (n +
     sizes_of xs) ys
@@ -34,6 +35,7 @@ up-to : (cs : List Element) (i : ℕ) (x : Element) → i < length cs → x ≡ 
     ++ x ∷ []
 up-to cs i x l e = take_more cs i x l ∙ ap (λ y. take i cs ++ y ∷ []) (sym e)
 
+-- one more element adds its size
 pub sizes-more : (cs : List Element) (i : ℕ) (x : Element) → i < length cs → x ≡ get_or cs i x → sizes_of (take (i
     + 1) cs) ≡ sizes_of (take i cs) + size_of x
 sizes-more cs i x l e =
@@ -41,6 +43,7 @@ sizes-more cs i x l e =
     (x ∷ []) in
     ap sizes_of (up-to cs i x l e) ∙ omega arith
 
+-- what elements say up to a place, and at it
 pub readings-more : (rows : List Row) (around : Surroundings) (n : ℕ) (cs : List Element) (i : ℕ) (x : Element) → i
     < length cs → x ≡ get_or cs i x
     → readings_among rows around n (take (i + 1) cs) ≡ readings_among rows around n (take i cs) ++ reading_among
@@ -109,6 +112,7 @@ short-min n e h =
     given) (short-parts e h.short).0 in
     (and_parts (is_short (codes "min") given) (is_short (codes "max") given) both.0).0
 
+-- the `max` of a readable element has few digits
 pub short-max : (n : ℕ) (e : Element) → IsReadable n e → is_short (codes "max") (out-Element e).attributes ≡ true
 unfolding own_short
 short-max n e h =
@@ -117,6 +121,7 @@ short-max n e h =
     given) (short-parts e h.short).0 in
     (and_parts (is_short (codes "min") given) (is_short (codes "max") given) both.0).1
 
+-- the `level` of a readable element has few digits
 pub short-level : (n : ℕ) (e : Element) → IsReadable n e → is_short (codes "level") (out-Element e).attributes ≡ true
 unfolding own_short
 short-level n e h =
@@ -131,6 +136,7 @@ inside-readable n e h = record {
   short = (short-parts e h.short).1;
 }
 
+-- an element in a readable one is readable, with the number that the loop has for it
 pub child-readable : (n : ℕ) (e : Element) (cs : List Element) (i : ℕ) (x : Element) (m : ℕ) → IsReadable n e → cs
     ≡ (out-Element e).children
     → m ≡ (n + 1) + sizes_of (take i cs) → i < length cs → x ≡ get_or cs i x → IsReadable m x
@@ -154,11 +160,13 @@ counted-all n e cs i after cs_is l after_is =
     let whole : size_of e ≡ suc (sizes_of (out-Element e).children) = size-out e in
     omega arith
 
+-- at the end of the loop all elements in an element were passed
 pub inside-all : (rows : List Row) (around : Surroundings) (n : ℕ) (e : Element) (cs : List Element) (i : ℕ) → cs ≡
     (out-Element e).children → length cs ≤ i
     → readings_among rows around (n + 1) (take i cs) ≡ inside_among rows around n e
 inside-all rows around n e cs i cs_is l = ap (λ es. readings_among rows around (n + 1) es) (take_all i cs l ∙ cs_is)
 
+-- one more element says one more thing
 pub next-reading : (rows : List Row) (around : Surroundings) (first : ℕ) (cs : List Element) (i : ℕ) (x : Element)
     (n : ℕ) → n ≡ first + sizes_of (take i cs) → i < length cs → x ≡ get_or cs i x
     → readings_among rows around first (take (i + 1) cs) ≡ readings_among rows around first (take i cs) ++
@@ -235,16 +243,19 @@ pub list-counted : (n : ℕ) (cs : List Element) (i after : ℕ) → length cs �
     after ≡ n + sizes_of cs
 list-counted n cs i after l after_is = after_is ∙ ap (λ (es : List Element). n + sizes_of es) (take_all i cs l)
 
+-- at the end of a loop over elements all were passed
 pub list-all : (rows : List Row) (around : Surroundings) (n : ℕ) (cs : List Element) (i : ℕ) → length cs ≤ i
     → readings_among rows around n (take i cs) ≡ readings_among rows around n cs
 list-all rows around n cs i l = ap (λ (es : List Element). readings_among rows around n es) (take_all i cs l)
 
 -- ---- small facts of answers
 
+-- nothing behind a first changes nothing
 pub or-none : {A : Type 0} (o : Option A) → option_or o None ≡ o
 or-none None = refl
 or-none (Some x) = refl
 
+-- a fact that always holds holds where the answer is Ok
 pub always-ok : {T E : Type 0} (r : Result T E) {P : Type 0} → P → OnOk r P
 always-ok (Ok x) p = p
 always-ok (Err e) p = tt
@@ -254,6 +265,7 @@ pub not-so : (found same : Bool) → found ≡ not same → found ≡ true → s
 not-so found true is h = absurd (cc)
 not-so found false is h = refl
 
+-- what a test of `!=` says that failed
 pub is-so : (found same : Bool) → found ≡ not same → found ≡ false → same ≡ true
 is-so found true is h = refl
 is-so found false is h = absurd (cc)
@@ -265,6 +277,7 @@ inside-counted n e cs cs_is =
     let same : sizes_of cs ≡ sizes_of (out-Element e).children = ap sizes_of cs_is in
     omega (arith, size-out e)
 
+-- the elements in a readable element are readable
 pub children-readable : (n : ℕ) (e : Element) (cs : List Element) → cs ≡ (out-Element e).children → IsReadable n e
     → AreReadable (n + 1) cs
 children-readable n e cs cs_is h = let P : List Element → Type 0 = λ es. AreReadable (n + 1) es in subst P (sym

@@ -100,6 +100,7 @@ abbrev pub AllOthers : Text → List Row → Type 0
 AllOthers tag [] = Unit {0}
 AllOthers tag (row ∷ rows) = (tag ≡ tag_of row → ⊥) × AllOthers tag rows
 
+-- no row is found by a tag that is none of theirs
 pub none-of : (tag : Text) (rows : List Row) → AllOthers tag rows → None ≡ find (has_tag tag) rows
 none-of tag [] h = refl
 none-of tag (row ∷ rows) h = by_test (has_tag tag row) refl (none-of tag rows h.1)
@@ -172,6 +173,7 @@ one-row row tag is =
     (tag_of row)) (sym same) ∙ is in
     ap (λ b. cond b (Some row) None) (sym back)
 
+-- a tag that is not that of the one row
 pub no-row : (row : Row) (tag : Text) → bytes_eq tag (tag_of row) ≡ false → None ≡ find (has_tag tag) (row ∷ [])
 no-row row tag is = by_test (has_tag tag row) refl
   where
