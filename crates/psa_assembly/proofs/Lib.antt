@@ -17,3 +17,4 @@ pub mod WalkForms
 pub mod FactorLevels
 pub mod GroupForms
 pub mod DottedNames
+pub mod FewTrees
