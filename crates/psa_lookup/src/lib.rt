@@ -7,6 +7,7 @@ mod duplicates;
 mod families;
 mod forks;
 mod grouped;
+mod lookup;
 mod names;
 mod notes;
 mod numbers;
@@ -19,6 +20,7 @@ mod states;
 mod table;
 
 pub use grouped::{Grouped, group_names};
+pub use lookup::{Looked, look_up};
 pub use names::{Names, find_event};
 pub use numbers::Numbered;
 pub use pass::Pass;
