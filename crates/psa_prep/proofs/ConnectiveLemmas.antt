@@ -1,30 +1,27 @@
 -- The nodes of connectives by those of their arguments.
-use Rattle.std.proofs.Common.{◌≡◌, ◌<◌, ◌≤◌, ◌+◌, ◌-◌, ℕ, zero, suc, Bool, true, false, ◌==◌, List, [], ◌∷◌, ◌++◌, Option, Some, None, cond, length, map, take, get_or, nat_le, not, ◌&&◌, ◌||◌, refl, sym, ap, ◌∙◌, subst, arith}
+use Rattle.std.proofs.Common.{◌≡◌, ◌<◌, ◌≤◌, ◌+◌, ℕ, zero, suc, Bool, true, false, ◌==◌, List, [], ◌∷◌, ◌++◌, Some, cond, length, map, take, get_or, nat_le, not, ◌&&◌, ◌||◌, refl, sym, ap, ◌∙◌, subst, arith}
 use Rattle.std.proofs.lemmas.Bool.Decides.{nat_tests}
 use Rattle.std.proofs.lemmas.List.{take_all, map-append, length-map}
 use Rattle.std.proofs.lemmas.List.Folds.{list_any-append, list_all-append}
 use Rattle.std.specs.List.{slice_get, list_all, list_any}
-use Rattle.psa_model.specs.declared.formula.Connective.{Connective}
-use Rattle.psa_model.specs.declared.formula.Connective.TheVariants.{And, Or, Not, Xor, Iff, Nand, Nor, Imply, Atleast, Cardinality}
 use Rattle.psa_model.specs.declared.formula.Formula.{Formula}
-use Rattle.psa_model.specs.declared.formula.Formula.TheVariants as variant
 use Rattle.psa_model.specs.Formulas.{count_true, of_one, of_two, is_same, truth_of_connective}
-use Rattle.psa_model.specs.Parts.{Truth, Meets, IsSimplePart, between, formula, argument, at_least, opposite, truth_over}
+use Rattle.psa_model.specs.Parts.{Truth, IsSimplePart, between, formula, argument, at_least, opposite, truth_over}
 use Rattle.psa_prep.specs.declared.builder.Builder.{Builder}
 use Rattle.psa_prep.specs.declared.connectives.Operands.{Operands}
 use Rattle.psa_prep.specs.declared.lowering.Context.{Context}
 use Rattle.psa_prep.specs.declared.pairs.Pair.{Pair}
 use Rattle.psa_prep.specs.declared.pairs.Signs.{Signs}
 use Rattle.psa_prep.specs.Connectives.{whole, truths, AreOperands, gathers, MakesWhole, MakesOf, IsPartly}
-use Rattle.psa_prep.specs.Lowering.{world_of, houses_of, AllRead, both_signs}
+use Rattle.psa_prep.specs.Lowering.{world_of, houses_of, both_signs}
 use Rattle.psa_prep.specs.Nodes.{nodes_of, joins}
 use Rattle.psa_prep.specs.Pairs.{Reads, Stands, swapped, swapped_pair, constant_pair}
-use Rattle.psa_prep.specs.Sound.{World, formula_truth, AreParts, IsSound, Made, JoinsPairs}
+use Rattle.psa_prep.specs.Sound.{formula_truth, AreParts, IsSound, Made, JoinsPairs}
 use Rattle.psa_prep.proofs.EventLemmas.{between-take}
 use Rattle.psa_prep.proofs.ListLemmas.{at-place, take-next}
 use Rattle.psa_graph.specs.declared.graph.GraphNode.{GraphNode}
 use Rattle.psa_prep.proofs.PlaceLemmas.{grown-then, grown-length}
-use Rattle.psa_prep.proofs.SoundLemmas.{simple-parts, joined-parts, parts-as, parts-opposite, made-then, made-as, made-swapped, made-constant, reads-grown, reads-swapped, reads-any, reads-as}
+use Rattle.psa_prep.proofs.SoundLemmas.{simple-parts, joined-parts, made-then, made-as, made-swapped, made-constant, reads-grown, reads-swapped, reads-any}
 
 -- ---- parts
 

@@ -1,5 +1,5 @@
 -- At least so many of the arguments before a place.
-use Rattle.std.proofs.Common.{inl, inr, ◌⊎◌, ◌≡◌, ◌<◌, ◌≤◌, ◌+◌, ◌-◌, ℕ, zero, suc, Bool, true, false, ◌==◌, List, [], ◌∷◌, ◌++◌, Some, None, cond, length, take, get_or, nat_le, not, ◌&&◌, ◌||◌, refl, sym, ap, ◌∙◌, subst, arith, length-append, add-one}
+use Rattle.std.proofs.Common.{inl, inr, ◌⊎◌, ◌≡◌, ◌<◌, ◌≤◌, ◌+◌, ◌-◌, ℕ, zero, suc, Bool, true, false, ◌==◌, List, [], ◌∷◌, ◌++◌, Some, cond, length, take, get_or, nat_le, not, ◌&&◌, ◌||◌, refl, sym, ap, ◌∙◌, subst, arith, length-append, add-one}
 use Rattle.std.proofs.lemmas.Bool.Decides.{nat_tests, eqb_tells}
 use Rattle.std.proofs.lemmas.List.{take_all}
 use Rattle.std.specs.List.{slice_get}
@@ -13,11 +13,11 @@ use Rattle.psa_prep.specs.declared.pairs.Signs.{Signs}
 use Rattle.psa_prep.specs.Connectives.{truths, AreOperands, MakesOf, IsPartly}
 use Rattle.psa_prep.specs.Counting.{counts, ReadsCount, MakesCount, IsRow, MakesRow, first_pairs, falses}
 use Rattle.psa_prep.specs.Lowering.{world_of, houses_of, both_signs}
-use Rattle.psa_prep.specs.Nodes.{nodes_of, joins, IsBuilt}
-use Rattle.psa_prep.specs.Pairs.{Reads, Stands, swapped, swapped_pair, constant_pair}
+use Rattle.psa_prep.specs.Nodes.{nodes_of, IsBuilt}
+use Rattle.psa_prep.specs.Pairs.{swapped, swapped_pair, constant_pair}
 use Rattle.psa_prep.specs.Places.{Grown}
 use Rattle.psa_prep.specs.Sound.{formula_truth, IsSound, Made, JoinsPairs}
-use Rattle.psa_prep.proofs.ConnectiveLemmas.{argument-at, argument-part, count-part, count-same, operand-reads, get-is, get-within, truths-next}
+use Rattle.psa_prep.proofs.ConnectiveLemmas.{argument-at, argument-part, count-part, count-same, operand-reads, get-is, truths-next}
 use Rattle.psa_prep.proofs.ListLemmas.{slice_get-push}
 use Rattle.psa_prep.proofs.PlaceLemmas.{grown-self, grown-then}
 use Rattle.psa_prep.proofs.SoundLemmas.{simple-parts, joined-parts, made-then, made-as, reads-constant, reads-grown, reads-swapped, reads-any}

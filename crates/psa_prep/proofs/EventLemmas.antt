@@ -1,10 +1,10 @@
 -- The nodes of basic events and of their expanded events.
-use Rattle.std.proofs.Common.{inl, inr, ◌≡◌, ◌<◌, ◌≤◌, ◌+◌, ◌-◌, ℕ, suc, Bool, true, false, ◌==◌, List, [], ◌∷◌, ◌++◌, Option, Some, None, cond, length, take, drop, get_or, not, ◌&&◌, ◌||◌, refl, sym, ap, ◌∙◌, subst, arith}
+use Rattle.std.proofs.Common.{inl, inr, ◌≡◌, ◌<◌, ◌≤◌, ◌+◌, ◌-◌, ℕ, suc, Bool, true, false, List, [], ◌∷◌, Some, None, cond, length, take, get_or, not, ◌&&◌, ◌||◌, refl, sym, ap, ◌∙◌, arith}
 use Rattle.std.proofs.lemmas.Bool.Decides.{eqb_tells}
 use Rattle.std.proofs.lemmas.List.{take_all}
 use Rattle.std.proofs.lemmas.List.Folds.{list_any-append}
-use Rattle.std.specs.List.{slice_get, list_any}
-use Rattle.psa_graph.specs.Truths.{truth_at, literal_truth}
+use Rattle.std.specs.List.{list_any}
+use Rattle.psa_graph.specs.Truths.{literal_truth}
 use Rattle.psa_logic.specs.Products.{literal_number, holds_at, is_positive, rank_of}
 use Rattle.psa_logic.proofs.LiteralLemmas.{rank-literal, positive-literal}
 use Rattle.psa_model.specs.declared.formula.Formula.TheVariants as variant
@@ -18,14 +18,14 @@ use Rattle.psa_prep.specs.declared.builder.Builder.{Builder}
 use Rattle.psa_prep.specs.declared.pairs.Pair.{Pair}
 use Rattle.psa_prep.specs.declared.pairs.Signs.{Signs}
 use Rattle.psa_prep.specs.Lowering.{rank_at}
-use Rattle.psa_prep.specs.Nodes.{nodes_of, joins, Placed}
-use Rattle.psa_prep.specs.Pairs.{Reads, constant_pair}
+use Rattle.psa_prep.specs.Nodes.{nodes_of, Placed}
+use Rattle.psa_prep.specs.Pairs.{constant_pair}
 use Rattle.psa_prep.specs.Sound.{World, formula_truth, AreParts, IsSound, Made, JoinsPairs}
 use Rattle.psa_prep.proofs.FormulaLemmas.{over-basic}
 use Rattle.psa_prep.proofs.ListLemmas.{take-next}
 use Rattle.psa_prep.proofs.NodeLemmas.{truth-grown}
 use Rattle.psa_prep.proofs.PlaceLemmas.{grown-length, grown-then}
-use Rattle.psa_prep.proofs.SoundLemmas.{sound-placed, placed-grown, simple-parts, part-as, made-there, made-constant, made-then, made-as, reads-constant, reads-grown}
+use Rattle.psa_prep.proofs.SoundLemmas.{sound-placed, placed-grown, simple-parts, made-constant, made-then, made-as, reads-grown}
 
 -- a rank is one of the list
 pub rank-below : (event from rank : ℕ) (ranks : List EventNumber) → rank_at event from ranks ≡ Some rank → rank < from + length ranks

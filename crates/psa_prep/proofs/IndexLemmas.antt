@@ -1,5 +1,5 @@
 -- The index of events: what is noted for a basic event is its list.
-use Rattle.std.proofs.Common.{◌≡◌, ◌≤◌, ◌<◌, ◌+◌, ◌-◌, ◌/◌, ◌%◌, ℕ, suc, zero, Bool, true, false, List, [], ◌∷◌, ◌++◌, Some, length, take, drop, get_or, eqb, cond, nat_lt, ◌&&◌, ◌||◌, refl, ap, sym, ◌∙◌, subst, unwrap_or, arith, length-append, sub-one, add-one}
+use Rattle.std.proofs.Common.{◌≡◌, ◌≤◌, ◌<◌, ◌+◌, ◌-◌, ◌/◌, ◌%◌, ℕ, suc, zero, Bool, true, false, List, [], ◌∷◌, ◌++◌, Some, length, take, drop, get_or, eqb, cond, nat_lt, ◌&&◌, ◌||◌, refl, ap, sym, ◌∙◌, unwrap_or, arith, length-append, sub-one, add-one}
 use Rattle.std.proofs.lemmas.Bool.Decides.{nat_tests}
 use Rattle.std.proofs.lemmas.List.{take_all, drop_more, drop_all, append-nil, length-take}
 use Rattle.std.specs.List.{slice_get, list_all}

@@ -1,5 +1,5 @@
 -- What stands in a list at a place.
-use Rattle.std.proofs.Common.{◌≡◌, ◌≤◌, ◌<◌, ◌+◌, ℕ, suc, zero, Bool, true, List, [], ◌∷◌, ◌++◌, Some, length, take, get_or, refl, ap, sym, ◌∙◌, subst, cond, eqb, ne_eqb, Option, None, arith}
+use Rattle.std.proofs.Common.{◌≡◌, ◌<◌, ◌+◌, ℕ, suc, zero, Bool, true, List, [], ◌∷◌, ◌++◌, Some, length, take, get_or, refl, ap, sym, ◌∙◌, subst, cond, eqb, ne_eqb, Option, None, arith}
 use Rattle.std.specs.List.{slice_get, list_all, flat_map}
 use Rattle.std.proofs.lemmas.List.{append-nil, append_assoc, take_more, get_or_default}
 use lib.Dec.{eqb-suc-suc}

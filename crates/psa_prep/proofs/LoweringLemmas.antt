@@ -1,7 +1,7 @@
 -- The nodes of formulas and of gates, by those of their parts.
-use Rattle.std.proofs.Common.{◌≡◌, ◌⊎◌, inl, inr, ◌<◌, ◌≤◌, ◌+◌, ◌-◌, ℕ, zero, suc, Bool, true, false, ◌==◌, List, [], ◌∷◌, ◌++◌, Some, None, cond, length, get_or, reverse, not, ◌&&◌, ◌||◌, refl, sym, ap, ◌∙◌, subst, arith, length-append}
+use Rattle.std.proofs.Common.{◌≡◌, ◌⊎◌, inl, inr, ◌<◌, ◌≤◌, ◌+◌, ℕ, suc, Bool, true, false, ◌==◌, List, [], ◌∷◌, ◌++◌, Some, cond, length, reverse, not, ◌&&◌, ◌||◌, refl, sym, ap, ◌∙◌, subst, length-append}
 use Rattle.std.proofs.lemmas.Bool.Decides.{eqb_tells}
-use Rattle.std.specs.List.{slice_get, list_all}
+use Rattle.std.specs.List.{slice_get}
 use Rattle.psa_graph.specs.declared.graph.GraphNode.{GraphNode}
 use Rattle.psa_graph.specs.Truths.{truth_at}
 use Rattle.psa_model.specs.declared.formula.Connective.{Connective}
@@ -12,7 +12,7 @@ use Rattle.psa_model.specs.declared.ids.HouseId.{HouseId}
 use Rattle.psa_model.specs.declared.model.TheConstants.{MAX_DEPTH}
 use Rattle.psa_model.specs.declared.model.Gate.{Gate}
 use Rattle.psa_model.specs.Parts.{Truth, Meets, argument}
-use Rattle.psa_model.specs.Truth.{within, state_of, house_states}
+use Rattle.psa_model.specs.Truth.{within, state_of}
 use Rattle.psa_model.proofs.Levels.{arity-within}
 use Rattle.psa_prep.specs.declared.builder.Builder.{Builder}
 use Rattle.psa_prep.specs.declared.builder.Known.{Known}
@@ -25,14 +25,13 @@ use Rattle.psa_prep.specs.declared.pairs.Signs.{Signs}
 use Rattle.psa_prep.specs.Connectives.{whole, AreOperands, MakesWhole}
 use Rattle.psa_prep.specs.Lowering.{IsContext, world_of, houses_of, argument_signs, AllRead, Makes, MakesAll}
 use Rattle.psa_prep.specs.Nodes.{nodes_of, known_of, with_more, Remembers}
-use Rattle.psa_prep.specs.Pairs.{Reads, Stands, without, constant_pair}
+use Rattle.psa_prep.specs.Pairs.{Reads, without, constant_pair}
 use Rattle.psa_prep.specs.Places.{Grown}
 use Rattle.psa_prep.specs.Sound.{World, state_houses, formula_truth, IsSubject, state_number, IsSound, Made}
-use Rattle.psa_prep.proofs.ConnectiveLemmas.{get-is, get-within, get-or-is}
 use Rattle.psa_prep.proofs.FormulaLemmas.{over-house, over-constant, over-gate, over-connective}
 use Rattle.psa_prep.proofs.ListLemmas.{slice_get-push}
 use Rattle.psa_prep.proofs.PlaceLemmas.{grown-self, grown-same, grown-then}
-use Rattle.psa_prep.proofs.SoundLemmas.{made-there, made-constant, made-then, made-as, reads-grown, reads-as, reads-fewer, sound-remembered}
+use Rattle.psa_prep.proofs.SoundLemmas.{made-there, made-constant, made-then, made-as, reads-grown, reads-fewer, sound-remembered}
 
 -- a formula by its form
 pub makes-as : (context : Context) (f g : Formula) (signs : Signs) (before now : Builder) (pair : Pair) → f ≡ g → Makes context g signs before now pair → Makes context f signs before now pair

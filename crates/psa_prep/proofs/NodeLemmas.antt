@@ -1,16 +1,16 @@
 -- The truths of the nodes of a graph while it grows.
-use Rattle.std.proofs.Common.{◌≡◌, ◌⊎◌, inl, inr, ◌<◌, ◌≤◌, ◌+◌, ℕ, suc, Bool, true, false, ◌==◌, List, [], ◌∷◌, ◌++◌, length, reverse, Option, Some, None, if◌then◌else◌, not, ◌&&◌, ◌||◌, refl, sym, ap, ◌∙◌, subst, arith, ne_eqb, eq-eqb, eqb-true, true≢false, length-append}
+use Rattle.std.proofs.Common.{◌≡◌, inl, inr, ◌<◌, ◌≤◌, ◌+◌, ℕ, Bool, true, false, List, [], ◌∷◌, ◌++◌, length, Some, ◌&&◌, ◌||◌, refl, sym, ap, ◌∙◌, subst, arith, ne_eqb, eq-eqb, eqb-true, true≢false, length-append}
 use Rattle.psa_model.proofs.Levels.{and-left, and-right}
 use Rattle.std.proofs.lemmas.Bool.Decides.{eqb_tells}
 use Rattle.psa_graph.specs.declared.graph.GraphNode.{GraphNode}
 use Rattle.psa_graph.specs.declared.graph.GraphNode.TheVariants.{Constant, Literal, And, Or}
 use Rattle.psa_graph.specs.contracts.graph.GraphNodePartialEq.TheImpl as the_impl
-use Rattle.psa_graph.specs.Truths.{literal_truth, truth_at, node_truth, IsNodeBehind, AreChildrenFirst}
+use Rattle.psa_graph.specs.Truths.{truth_at, node_truth, IsNodeBehind, AreChildrenFirst}
 use Rattle.psa_model.specs.Parts.{Truth}
 use Rattle.psa_prep.specs.declared.builder.Builder.{Builder}
-use Rattle.psa_prep.specs.Nodes.{nodes_of, joins, IsBuilt, Placed, JoinsAt, Joined, IsBlank}
+use Rattle.psa_prep.specs.Nodes.{nodes_of, IsBuilt, Placed, IsBlank}
 use Rattle.psa_prep.specs.Places.{older_at, IsAdded, Grown}
-use Rattle.psa_prep.proofs.PlaceLemmas.{added-grown, grown-length, grown-self}
+use Rattle.psa_prep.proofs.PlaceLemmas.{added-grown, grown-length}
 
 -- the derived comparison of nodes
 abbrev pub node_eq : GraphNode → GraphNode → Bool

@@ -1,18 +1,16 @@
 -- The nodes of sequences, by their paths and what these collected.
-use Rattle.std.proofs.Common.{inl, inr, ◌⊎◌, true≢false, ◌≡◌, ◌<◌, ◌≤◌, ◌+◌, ◌-◌, ℕ, zero, suc, Bool, true, false, List, [], ◌∷◌, ◌++◌, Option, Some, None, length, take, drop, get_or, nat_lt, not, ◌&&◌, ◌||◌, refl, sym, ap, ◌∙◌, subst, arith, append_assoc, length-append}
+use Rattle.std.proofs.Common.{inl, inr, ◌⊎◌, true≢false, ◌≡◌, ◌<◌, ◌≤◌, ◌+◌, ℕ, Bool, true, false, List, [], ◌∷◌, ◌++◌, Some, length, take, drop, get_or, nat_lt, ◌&&◌, ◌||◌, refl, sym, ap, ◌∙◌, subst, arith, append_assoc}
 use Rattle.std.proofs.lemmas.Bool.Decides.{nat_tests, leb_tells}
 use Rattle.std.proofs.lemmas.List.{take_all, drop_more, drop_all, append-nil}
 use Rattle.std.proofs.lemmas.List.Folds.{list_any-append, list_all-append}
 use Rattle.std.proofs.Math.Seq.{take-append_seam}
-use Rattle.std.specs.List.{slice_get, slice_set, list_all, list_any}
+use Rattle.std.specs.List.{slice_get, list_all, list_any}
 use Rattle.psa_model.specs.declared.formula.Formula.{Formula}
 use Rattle.psa_model.specs.declared.ids.FormulaId.{FormulaId}
 use Rattle.psa_model.specs.declared.ids.HouseId.{HouseId}
 use Rattle.psa_model.specs.declared.targets.PathStep.{PathStep}
 use Rattle.psa_model.specs.declared.targets.PathStep.TheVariants.{Collect, Set}
 use Rattle.psa_model.specs.declared.targets.Target.{Target}
-use Rattle.psa_model.specs.declared.targets.Target.TheVariants.{Sequence}
-use Rattle.psa_model.specs.declared.model.Model.{Model}
 use Rattle.psa_model.specs.Parts.{Truth, Meets, on_path, IsSimplePart, all_pairs, some_path, all_true, collected_on, between, truth_over}
 use Rattle.psa_model.specs.Standing.{step_stands}
 use Rattle.psa_model.specs.Targets.{Collected, collected, collected_formula}
@@ -25,17 +23,17 @@ use Rattle.psa_prep.specs.declared.pairs.Pair.{Pair}
 use Rattle.psa_prep.specs.declared.paths.Progress.{Progress}
 use Rattle.psa_prep.specs.declared.paths.Task.{Task}
 use Rattle.psa_prep.specs.declared.states.Setting.{Setting}
-use Rattle.psa_prep.specs.Nodes.{nodes_of, known_of, nothing_known}
+use Rattle.psa_prep.specs.Nodes.{nodes_of, known_of}
 use Rattle.psa_prep.specs.Pairs.{Reads, constant_pair}
 use Rattle.psa_prep.specs.Places.{Grown}
-use Rattle.psa_prep.specs.Sound.{World, IsSubject, state_houses, state_number, formula_truth, AreParts, IsSound, Made, JoinsPairs}
-use Rattle.psa_prep.specs.States.{AreEarlier, IsSet, houses_at}
-use Rattle.psa_prep.specs.Paths.{task_world, IsTask, yes_signs, IsStarted, ArePaths, IsPath, PathSoFar, Stepped, MadeAt, path_truth, paths_truth}
-use Rattle.psa_prep.proofs.ConnectiveLemmas.{get-is, get-within, get-or-is}
+use Rattle.psa_prep.specs.Sound.{IsSubject, state_houses, state_number, formula_truth, AreParts, IsSound, Made, JoinsPairs}
+use Rattle.psa_prep.specs.States.{AreEarlier, IsSet}
+use Rattle.psa_prep.specs.Paths.{task_world, yes_signs, IsStarted, ArePaths, IsPath, PathSoFar, Stepped, MadeAt, path_truth, paths_truth}
+use Rattle.psa_prep.proofs.ConnectiveLemmas.{get-is}
 use Rattle.psa_prep.proofs.EventLemmas.{between-take}
 use Rattle.psa_prep.proofs.ListLemmas.{take-next, all-at}
 use Rattle.psa_prep.proofs.PlaceLemmas.{grown-self, grown-then, grown-length}
-use Rattle.psa_prep.proofs.SoundLemmas.{simple-parts, made-then, reads-constant, reads-grown, reads-as}
+use Rattle.psa_prep.proofs.SoundLemmas.{simple-parts, reads-constant, reads-grown, reads-as}
 use Rattle.psa_prep.proofs.StateLemmas.{houses-grown, houses-none}
 
 -- ---- house states that come in

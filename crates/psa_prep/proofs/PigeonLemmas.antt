@@ -1,5 +1,5 @@
 -- A target has no more ranked events than there are expanded events.
-use Rattle.std.proofs.Common.{inl, inr, ◌≡◌, ◌<◌, ◌≤◌, ◌+◌, ℕ, zero, suc, Bool, true, false, ◌==◌, List, [], ◌∷◌, length, map, nat_lt, cond, eqb, not, ◌&&◌, ◌||◌, refl, sym, ap, ◌∙◌, subst, arith, true≢false}
+use Rattle.std.proofs.Common.{inl, inr, ◌≡◌, ◌≤◌, ℕ, zero, suc, Bool, true, false, ◌==◌, List, [], ◌∷◌, length, map, nat_lt, cond, not, ◌&&◌, ◌||◌, refl, sym, ap, ◌∙◌, subst, arith, true≢false}
 use Rattle.std.proofs.lemmas.Bool.Decides.{nat_tests, eqb_tells}
 use Rattle.std.proofs.lemmas.Bool.{cases_Bool}
 use Rattle.std.proofs.lemmas.List.{length-map}
@@ -9,7 +9,6 @@ use Rattle.psa_model.specs.declared.ids.EventNumber.{EventNumber}
 use Rattle.psa_model.specs.declared.targets.Target.{Target}
 use Rattle.psa_model.specs.Models.{are_different}
 use Rattle.psa_model.specs.Ranks.{firsts, ranks_of, target_visits}
-use Rattle.psa_model.specs.Standing.{ranks_stand}
 use Rattle.psa_model.proofs.StandingRanks.{ranks-standing}
 use Rattle.psa_model.proofs.Levels.{and-left, and-right, and-both}
 

@@ -1,11 +1,11 @@
 -- What stays true of a graph while a target is prepared.
-use Rattle.std.proofs.Common.{◌≡◌, ◌⊎◌, inl, inr, ◌<◌, ◌≤◌, ◌+◌, ℕ, suc, Bool, true, false, ◌==◌, List, [], ◌∷◌, ◌++◌, length, reverse, Option, Some, None, cond, unwrap_or, not, ◌&&◌, ◌||◌, refl, sym, ap, ◌∙◌, subst, arith, true≢false, eqb-true}
-use Rattle.std.proofs.lemmas.Bool.Decides.{eqb_tells, nat_tests}
+use Rattle.std.proofs.Common.{◌≡◌, ◌⊎◌, inl, inr, ◌<◌, ◌≤◌, ℕ, suc, Bool, true, false, ◌==◌, List, ◌∷◌, length, reverse, Option, Some, cond, unwrap_or, not, ◌&&◌, ◌||◌, refl, sym, ap, ◌∙◌, subst, arith, true≢false, eqb-true}
+use Rattle.std.proofs.lemmas.Bool.Decides.{eqb_tells}
 use Rattle.psa_graph.specs.declared.graph.GraphNode.{GraphNode}
 use Rattle.indexmap.specs.IndexMap.{get}
 use Rattle.psa_graph.specs.Truths.{truth_at, AreChildrenFirst}
 use Rattle.psa_model.specs.declared.formula.Formula.{Formula}
-use Rattle.psa_model.specs.Parts.{Truth, IsSimplePart, IsPartOf, IsPart, one, both, either, opposite}
+use Rattle.psa_model.specs.Parts.{Truth, IsSimplePart, IsPart, one, both, either, opposite}
 use Rattle.psa_model.proofs.Levels.{and-left, and-right}
 use Rattle.psa_prep.specs.declared.builder.Builder.{Builder}
 use Rattle.psa_prep.specs.declared.builder.Known.{Known}
@@ -14,10 +14,10 @@ use Rattle.psa_prep.specs.declared.builder.Prepared.TheVariants as prepared
 use Rattle.psa_prep.specs.contracts.builder.PreparedPartialEq.TheImpl as the_impl
 use Rattle.psa_prep.specs.declared.pairs.Pair.{Pair}
 use Rattle.psa_prep.specs.declared.pairs.Signs.{Signs}
-use Rattle.psa_prep.specs.Nodes.{nodes_of, joins, known_of, nothing_known, prepared_eq, with_more, Remembers, IsBuilt, Placed}
-use Rattle.psa_prep.specs.Pairs.{Reads, Stands, swapped, swapped_pair, constant_pair, without}
+use Rattle.psa_prep.specs.Nodes.{nodes_of, joins, known_of, nothing_known, prepared_eq, Remembers, IsBuilt, Placed}
+use Rattle.psa_prep.specs.Pairs.{Reads, swapped, swapped_pair, constant_pair}
 use Rattle.psa_prep.specs.Places.{Grown}
-use Rattle.psa_prep.specs.Sound.{World, state_houses, formula_truth, IsSubject, state_number, AllParts, AreParts, AllRight, AllFresh, IsSound, Made, JoinsPairs}
+use Rattle.psa_prep.specs.Sound.{World, state_houses, formula_truth, IsSubject, state_number, AllParts, AreParts, AllRight, IsSound, Made, JoinsPairs}
 use Rattle.psa_prep.proofs.NodeLemmas.{truth-grown, built-grown}
 use Rattle.psa_prep.proofs.PlaceLemmas.{grown-length, grown-self, grown-same, grown-one, grown-then}
 

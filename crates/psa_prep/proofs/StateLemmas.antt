@@ -1,5 +1,5 @@
 -- Lists of house states by number.
-use Rattle.std.proofs.Common.{◌≡◌, ◌≢◌, ◌⊎◌, inl, inr, ◌<◌, ◌≤◌, ◌+◌, ◌-◌, ℕ, zero, suc, Bool, true, false, ◌==◌, ◌&&◌, List, [], ◌∷◌, ◌++◌, Option, Some, None, length, get_or, refl, sym, ap, ◌∙◌, subst, arith, ne_eqb, eq-eqb, eqb-true, true≢false, length-append, map, if◌then◌else◌}
+use Rattle.std.proofs.Common.{◌≡◌, inl, inr, ◌<◌, ◌≤◌, ◌+◌, ◌-◌, ℕ, zero, suc, Bool, true, false, ◌==◌, List, [], ◌∷◌, ◌++◌, Some, None, length, refl, sym, ap, ◌∙◌, subst, arith, ne_eqb, eq-eqb, eqb-true, true≢false, length-append, map, if◌then◌else◌}
 use Rattle.std.proofs.lemmas.Bool.Decides.{eqb_tells}
 use Rattle.std.specs.List.{slice_get, slice_set}
 use Rattle.std.specs.Option.{option_map}
@@ -12,9 +12,9 @@ use Rattle.std.proofs.lemmas.List.{length-map}
 use Rattle.psa_model.proofs.Levels.{and-left, and-right}
 use Rattle.psa_prep.specs.declared.states.Setting.{Setting}
 use Rattle.psa_prep.specs.contracts.states.SettingPartialEq.TheImpl as the_impl
-use Rattle.psa_prep.specs.Places.{older_at, IsAdded, Grown}
+use Rattle.psa_prep.specs.Places.{older_at, Grown}
 use Rattle.psa_prep.specs.States.{houses_at, AreEarlier, IsSet, IsMade}
-use Rattle.psa_prep.proofs.PlaceLemmas.{added-grown, grown-self, grown-length}
+use Rattle.psa_prep.proofs.PlaceLemmas.{added-grown, grown-self}
 
 -- the derived comparison of settings
 abbrev pub setting_eq : Setting → Setting → Bool

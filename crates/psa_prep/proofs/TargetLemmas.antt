@@ -1,10 +1,10 @@
 -- The graph of a target.
-use Rattle.std.proofs.Common.{inl, inr, ◌⊎◌, ◌≡◌, ◌<◌, ◌≤◌, ◌+◌, ◌-◌, ℕ, zero, suc, Bool, true, false, ◌==◌, List, [], ◌∷◌, Option, Some, None, length, reverse, drop, get_or, cond, nat_eq, nat_lt, not, ◌&&◌, refl, sym, ap, ◌∙◌, subst, arith, true≢false}
+use Rattle.std.proofs.Common.{◌≡◌, ◌<◌, ◌+◌, ℕ, zero, suc, Bool, true, false, List, [], ◌∷◌, Some, None, length, reverse, drop, get_or, cond, nat_eq, refl, sym, ap, ◌∙◌, subst, arith}
 use Rattle.std.proofs.lemmas.Bool.Decides.{nat_tests}
 use Rattle.std.proofs.lemmas.List.{drop_more, drop_all, length-reverse}
 use Rattle.std.specs.HashMap.{HashMap, get, IsEmpty}
 use Rattle.std.specs.Map.{lookup}
-use Rattle.std.specs.List.{slice_get, list_all}
+use Rattle.std.specs.List.{list_all}
 use Rattle.psa_graph.specs.declared.graph.GraphNode.{GraphNode}
 use Rattle.psa_graph.specs.declared.graph.GraphNode.TheVariants.{Constant}
 use Rattle.psa_graph.specs.declared.graph.Graph.{Graph}
@@ -23,19 +23,19 @@ use Rattle.psa_model.specs.Ranks.{ranks_of}
 use Rattle.psa_model.specs.Standing.{target_stands, step_stands}
 use Rattle.psa_model.specs.Targets.{truth_by_rank}
 use Rattle.psa_model.specs.Truth.{house_states}
-use Rattle.psa_model.proofs.Levels.{and-left, and-right}
+use Rattle.psa_model.proofs.Levels.{and-right}
 use Rattle.psa_prep.specs.declared.builder.Builder.{Builder}
 use Rattle.psa_prep.specs.declared.builder.Known.{Known}
 use Rattle.psa_prep.specs.declared.pairs.Pair.{Pair}
 use Rattle.psa_prep.specs.declared.pairs.Signs.{Signs}
 use Rattle.psa_prep.specs.declared.paths.Task.{Task}
 use Rattle.psa_prep.specs.declared.states.Setting.{Setting}
-use Rattle.psa_prep.specs.Lowering.{rank_at, AreRanks}
-use Rattle.psa_prep.specs.Nodes.{nodes_of, known_of, nothing_known, IsBlank}
+use Rattle.psa_prep.specs.Lowering.{rank_at}
+use Rattle.psa_prep.specs.Nodes.{nodes_of, nothing_known, IsBlank}
 use Rattle.psa_prep.specs.Pairs.{Reads}
 use Rattle.psa_prep.specs.Paths.{task_world, yes_signs, IsStarted, ArePaths, MadeAt, paths_truth}
 use Rattle.psa_prep.specs.Preparing.{MadeTarget}
-use Rattle.psa_prep.specs.Sound.{World, state_number, state_houses, formula_truth, IsSound, Made}
+use Rattle.psa_prep.specs.Sound.{state_number, state_houses, formula_truth, Made}
 use Rattle.psa_prep.proofs.NodeLemmas.{blank-built}
 use Rattle.psa_prep.proofs.StateLemmas.{houses-none}
 

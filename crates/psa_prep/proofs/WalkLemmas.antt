@@ -1,7 +1,7 @@
 -- A walk over formulas gives the ranks of a target: its events by the first places of their visits.
 use Rattle.std.proofs.Common.{◌≡◌, ◌≤◌, ◌<◌, ◌+◌, ◌-◌, ℕ, suc, Bool, true, false, List, [], ◌∷◌, ◌++◌, Option, Some, None, length, map, take, drop, get_or, cond, nat_eq, eqb, ◌||◌, ◌&&◌, Result, Ok, Err, refl, ap, sym, ◌∙◌, subst, arith}
 use Rattle.std.proofs.lemmas.Bool.Decides.{nat_tests}
-use Rattle.std.proofs.lemmas.List.{append_assoc, take_all, take-append-drop, length-map, length-append, map-append}
+use Rattle.std.proofs.lemmas.List.{take_all, take-append-drop, length-map, length-append, map-append}
 use Rattle.std.specs.List.{slice_get, list_all, list_any, flat_map}
 use Rattle.std.specs.HashSet.{HashSet, contains, IsEmpty}
 use Rattle.psa_model.specs.declared.expanded.Expanded.{Expanded}
@@ -20,17 +20,17 @@ use Rattle.psa_model.specs.declared.model.Model.{Model}
 use Rattle.psa_model.specs.declared.targets.PathStep.{PathStep}
 use Rattle.psa_model.specs.declared.targets.PathStep.TheVariants.{Collect, Set}
 use Rattle.psa_model.specs.declared.targets.Target.{Target}
-use Rattle.psa_model.specs.declared.targets.Target.TheVariants.{TopEvent, Sequence}
+use Rattle.psa_model.specs.declared.targets.Target.TheVariants.{TopEvent}
 use Rattle.psa_model.specs.Events.{events_of}
 use Rattle.psa_model.specs.Ranks.{visits, target_visits, ranks_of}
 use Rattle.psa_model.specs.Standing.{target_stands}
 use Rattle.psa_model.specs.Targets.{Collected, collected, collected_formula}
-use Rattle.psa_model.specs.Truth.{IsResolved, within, at_gate, house_states}
-use Rattle.psa_model.proofs.Levels.{visits-gate, visits-basic, visits-house, visits-constant, visits-connective, visits-more, some-level, arguments-within, gate-within, within-of-gate, within-more, and-left, and-right}
+use Rattle.psa_model.specs.Truth.{IsResolved, within, at_gate}
+use Rattle.psa_model.proofs.Levels.{visits-gate, visits-basic, visits-house, visits-constant, visits-connective, visits-more, some-level, arguments-within, gate-within, within-of-gate, and-left}
 use Rattle.psa_prep.specs.declared.ranking.Ranking.{Ranking}
 use Rattle.psa_prep.specs.declared.ranking.Stop.{Stop}
 use Rattle.psa_prep.specs.declared.ranking.Stop.TheVariants as stop
-use Rattle.psa_prep.specs.Ranking.{Ends, is_in, ranked, numbers, Agrees, AllEntered, AllCollected, IsSound, RanksMore, RanksList, Ranked, Exceeds, ExceedsAt, RankedOr, RanksListOr, RanksMoreOr, option_visits, step_visits}
+use Rattle.psa_prep.specs.Ranking.{Ends, is_in, ranked, numbers, Agrees, AllEntered, AllCollected, IsSound, RanksMore, RanksList, Ranked, Exceeds, ExceedsAt, option_visits, step_visits}
 use Rattle.psa_prep.proofs.ListLemmas.{at-place, take-next, flat-push, flat-append, all-split}
 use Rattle.psa_prep.proofs.RankLemmas.{is_in-push, ranked-append, all-stay, all-ranked, ranked-known, ranked-from-none, ranked-longer, ranked-new}
 

@@ -1,5 +1,5 @@
 -- At least so many of the arguments before a place, for each count up to a bound.
-use Rattle.std.specs.Prelude.{◌≡◌, ℕ, zero, suc, Bool, true, false, List, [], ◌∷◌, ◌++◌, Some, length, map, take, nat_le}
+use Rattle.std.specs.Prelude.{◌≡◌, ℕ, zero, suc, Bool, true, false, List, [], ◌∷◌, ◌++◌, Some, length, take, nat_le}
 use Rattle.std.specs.List.{slice_get}
 use Rattle.psa_model.specs.Formulas.{count_true}
 use Rattle.psa_prep.specs.declared.builder.Builder.{Builder}

@@ -1,12 +1,11 @@
 -- What the preparation of a formula is given, and what it makes.
-use Rattle.std.specs.Prelude.{◌≡◌, ◌==◌, ◌≤◌, ℕ, zero, suc, Bool, true, List, [], ◌∷◌, Option, Some, None, length, reverse, nat_eq, if◌then◌else◌}
+use Rattle.std.specs.Prelude.{◌≡◌, ◌==◌, ◌≤◌, ℕ, suc, Bool, true, List, [], ◌∷◌, Option, Some, None, length, reverse, nat_eq, if◌then◌else◌}
 use Rattle.std.specs.List.{slice_get}
 use Rattle.std.specs.HashMap.{HashMap, get}
 use Rattle.psa_model.specs.declared.formula.Connective.{Connective}
 use Rattle.psa_model.specs.declared.formula.Connective.TheVariants.{And, Or, Not, Xor, Iff, Nand, Nor, Imply, Atleast, Cardinality}
 use Rattle.psa_model.specs.declared.formula.Formula.{Formula}
 use Rattle.psa_model.specs.declared.ids.EventNumber.{EventNumber}
-use Rattle.psa_model.specs.Parts.{Truth}
 use Rattle.psa_model.specs.Ranks.{ranks_of}
 use Rattle.psa_model.specs.Targets.{occurs_by_rank}
 use Rattle.psa_prep.specs.declared.builder.Builder.{Builder}

@@ -1,5 +1,5 @@
 -- What is made of a sequence: all that some path collected.
-use Rattle.std.specs.Prelude.{◌≡◌, ◌≤◌, ℕ, Bool, true, false, List, ◌++◌, Some, drop, length, reverse}
+use Rattle.std.specs.Prelude.{◌≡◌, ◌≤◌, ℕ, true, false, List, ◌++◌, Some, drop, length, reverse}
 use Rattle.std.specs.List.{slice_get, list_all, list_any}
 use Rattle.psa_model.specs.declared.formula.Formula.{Formula}
 use Rattle.psa_model.specs.declared.ids.FormulaId.{FormulaId}
@@ -7,11 +7,10 @@ use Rattle.psa_model.specs.declared.ids.InitiatingId.{InitiatingId}
 use Rattle.psa_model.specs.declared.ids.SequenceId.{SequenceId}
 use Rattle.psa_model.specs.declared.targets.PathStep.{PathStep}
 use Rattle.psa_model.specs.declared.targets.Target.TheVariants.{Sequence}
-use Rattle.psa_model.specs.Parts.{Truth, Meets, all_true, collected_on}
+use Rattle.psa_model.specs.Parts.{Truth, all_true, collected_on}
 use Rattle.psa_model.specs.Ranks.{ranks_of}
 use Rattle.psa_model.specs.Standing.{step_stands}
 use Rattle.psa_model.specs.Targets.{Collected, collected}
-use Rattle.psa_model.specs.Truth.{house_states}
 use Rattle.psa_prep.specs.declared.builder.Builder.{Builder}
 use Rattle.psa_prep.specs.declared.pairs.Pair.{Pair}
 use Rattle.psa_prep.specs.declared.pairs.Signs.{Signs}

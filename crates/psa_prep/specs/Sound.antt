@@ -1,6 +1,6 @@
 -- What stays true of a graph while a target is prepared: its nodes are parts of the target, and what is remembered is
 -- right.
-use Rattle.std.specs.Prelude.{◌≡◌, ◌<◌, ◌≤◌, ℕ, Bool, List, Option, Some, length, not}
+use Rattle.std.specs.Prelude.{◌≡◌, ◌<◌, ℕ, Bool, List, Some, length, not}
 use Rattle.std.specs.List.{slice_get}
 use Rattle.psa_graph.specs.declared.graph.GraphNode.{GraphNode}
 use Rattle.psa_graph.specs.Truths.{truth_at}

@@ -1,4 +1,4 @@
-use Rattle.std.proofs.Common.{◌≡◌, ℕ, true, false, List, length, sym, ap, ◌∙◌, refl, subst, not, ◌||◌, ◌&&◌, nat_le, eqb-true}
+use Rattle.std.proofs.Common.{true, false, length, sym, ap, ◌∙◌, subst, not, ◌||◌, ◌&&◌, nat_le, eqb-true}
 use Rattle.psa_model.specs.Formulas.{truth_of_connective, has_arity, of_two, is_same, count_true}
 use Rattle.psa_model.specs.declared.formula.Connective.{Connective}
 use Rattle.psa_prep.specs.declared.pairs.Signs.{Signs}

@@ -1,4 +1,3 @@
-use Rattle.std.proofs.Common.{◌≡◌, ◌∙◌, refl}
 use Rattle.std.proofs.lemmas.List.{get_or_default}
 use Rattle.psa_prep.proofs.ConnectiveLemmas.{gather-start, gather-more, gather-end, operand-stands}
 use Rattle.psa_prep.proofs.connectives.gather.Goals as goal

@@ -1,8 +1,7 @@
-use Rattle.std.proofs.Common.{◌≡◌, ◌<◌, true, false, length, get_or, slice_index_or, sym, ◌∙◌, refl, subst, arith}
+use Rattle.std.proofs.Common.{◌≡◌, false, get_or, slice_index_or, subst, arith}
 use Rattle.std.proofs.lemmas.List.{get_or_default}
 use Rattle.psa_prep.specs.declared.pairs.Pair.{Pair}
 use Rattle.psa_prep.specs.Nodes.{nodes_of}
-use Rattle.psa_prep.specs.Pairs.{swapped_pair}
 use Rattle.psa_prep.specs.Sound.{JoinsPairs}
 use Rattle.psa_prep.proofs.PlaceLemmas.{if-ok, grown-self}
 use Rattle.psa_prep.proofs.ConnectiveLemmas.{operand-stands, stands-swapped, imply-made}

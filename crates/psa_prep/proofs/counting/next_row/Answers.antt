@@ -1,16 +1,10 @@
-use Rattle.std.proofs.Common.{◌≡◌, ◌<◌, ◌≤◌, ◌+◌, ◌-◌, ◌++◌, ◌∷◌, [], ℕ, suc, true, false, List, length, get_or, slice_index_or, sym, ap, ◌∙◌, refl, subst, arith, nat_le, ◌&&◌}
-use Rattle.std.proofs.lemmas.List.{get_or_default}
-use Rattle.psa_model.specs.Formulas.{count_true}
+use Rattle.std.proofs.Common.{◌≡◌, ◌<◌, ◌+◌, ◌-◌, ℕ, List, length, sym, subst, arith}
 use Rattle.psa_prep.specs.declared.pairs.Pair.{Pair}
-use Rattle.psa_prep.specs.declared.pairs.Signs.{Signs}
-use Rattle.psa_prep.specs.Connectives.{MakesOf}
-use Rattle.psa_prep.specs.Counting.{MakesRow, first_pairs}
+use Rattle.psa_prep.specs.Counting.{MakesRow}
 use Rattle.psa_prep.specs.Nodes.{nodes_of}
-use Rattle.psa_prep.specs.Sound.{JoinsPairs}
-use Rattle.psa_prep.proofs.PlaceLemmas.{if-ok, grown-self}
-use Rattle.psa_prep.proofs.ConnectiveLemmas.{operand-stands, stands-grown, get-is}
+use Rattle.psa_prep.proofs.ConnectiveLemmas.{get-is}
 use Rattle.psa_prep.proofs.SoundLemmas.{reads-grown}
-use Rattle.psa_prep.proofs.CountLemmas.{count-with, count-made, first-row, row-start, row-more, row-then, row-end, operands-grown, operands-any, cardinality-made}
+use Rattle.psa_prep.proofs.CountLemmas.{row-more, operands-grown}
 use Rattle.psa_prep.proofs.counting.next_row.Goals as goal
 
 pub next_count-requires-clause-operands : goal.next_count-requires-clause-operands

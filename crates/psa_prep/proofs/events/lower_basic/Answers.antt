@@ -1,4 +1,4 @@
-use Rattle.std.proofs.Common.{◌≡◌, ◌∙◌, refl}
+use Rattle.std.proofs.Common.{◌∙◌}
 use Rattle.std.proofs.lemmas.List.{get_or_default}
 use Rattle.psa_prep.specs.Lowering.{world_of, houses_of}
 use Rattle.psa_prep.proofs.EventLemmas.{some-start, some-more, some-end}

@@ -1,4 +1,4 @@
-use Rattle.std.proofs.Common.{◌≡◌, ◌<◌, ◌∙◌, Some, None, length, sym, arith}
+use Rattle.std.proofs.Common.{◌≡◌, ◌∙◌, Some, sym, arith}
 use Rattle.psa_model.specs.Ranks.{ranks_of}
 use Rattle.psa_prep.specs.Lowering.{rank_at, world_of}
 use Rattle.psa_prep.proofs.EventLemmas.{rank-below, event-literal, event-missing}

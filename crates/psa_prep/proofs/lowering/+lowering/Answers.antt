@@ -1,12 +1,11 @@
-use Rattle.std.proofs.Common.{◌≡◌, ◌-◌, ◌≤◌, ◌<◌, true, Some, List, length, suc, sym, ap, ◌∙◌, refl, subst, arith}
-use Rattle.std.proofs.lemmas.List.{get_or_default}
+use Rattle.std.proofs.Common.{◌≡◌, ◌-◌, ◌<◌, true, Some, List, length, sym, ap, ◌∙◌, subst, arith}
 use Rattle.std.specs.List.{slice_get, list_all}
 use Rattle.psa_model.specs.declared.formula.Formula.{Formula}
 use Rattle.psa_model.specs.declared.formula.Formula.TheVariants as variant
-use Rattle.psa_model.specs.Parts.{Meets, in_gate}
+use Rattle.psa_model.specs.Parts.{in_gate}
 use Rattle.psa_model.specs.Truth.{within}
 use Rattle.psa_model.proofs.Levels.{some-level, arguments-within, gate-within, gate-stands, basic-stands, house-stands}
-use Rattle.psa_prep.specs.Lowering.{houses_of, MakesAll}
+use Rattle.psa_prep.specs.Lowering.{houses_of}
 use Rattle.psa_prep.proofs.ConnectiveLemmas.{get-is}
 use Rattle.psa_prep.proofs.ListLemmas.{all-at, at-place, some-none}
 use Rattle.psa_prep.proofs.LoweringLemmas.{makes-as, makes-house, makes-constant, meets-as, gate-known, gate-made, argument-meets, some-start, some-more, some-end, operands-made, connective-made}

@@ -1,4 +1,4 @@
-use Rattle.std.proofs.Common.{refl, ap}
+use Rattle.std.proofs.Common.{ap}
 use Rattle.psa_prep.specs.declared.pairs.Pair.{Pair}
 use Rattle.psa_prep.specs.declared.paths.Progress.{Progress}
 use Rattle.psa_prep.specs.Paths.{settings_of}

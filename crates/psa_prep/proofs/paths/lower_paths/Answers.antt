@@ -1,4 +1,4 @@
-use Rattle.std.proofs.Common.{List, false, subst, sym, refl}
+use Rattle.std.proofs.Common.{List, false, subst, sym}
 use Rattle.psa_prep.specs.declared.pairs.Signs.{Signs}
 use Rattle.psa_prep.specs.Sound.{JoinsPairs}
 use Rattle.psa_model.specs.declared.targets.PathStep.{PathStep}

@@ -1,16 +1,13 @@
-use Rattle.std.proofs.Common.{◌≡◌, ◌<◌, true, false, Some, List, length, get_or, sym, ap, ◌∙◌, subst, refl}
+use Rattle.std.proofs.Common.{◌≡◌, true, get_or, sym, ◌∙◌, subst}
 use Rattle.std.proofs.lemmas.List.{get_or_default}
-use Rattle.std.specs.List.{slice_get}
-use Rattle.psa_model.specs.declared.formula.Formula.{Formula}
-use Rattle.psa_model.specs.declared.targets.PathStep.{PathStep}
 use Rattle.psa_model.specs.declared.targets.PathStep.TheVariants.{Collect, Set}
 use Rattle.psa_prep.specs.declared.pairs.Signs.{Signs}
 use Rattle.psa_prep.specs.Nodes.{nodes_of}
-use Rattle.psa_prep.specs.Paths.{settings_of, MadeAt, IsPath, path_truth}
+use Rattle.psa_prep.specs.Paths.{settings_of}
 use Rattle.psa_prep.specs.Sound.{JoinsPairs}
 use Rattle.psa_prep.proofs.ConnectiveLemmas.{stands-grown}
 use Rattle.psa_prep.proofs.ListLemmas.{at-place}
-use Rattle.psa_prep.proofs.PathLemmas.{collect-stands, set-stands, path-meets, path-collect, path-set}
+use Rattle.psa_prep.proofs.PathLemmas.{collect-stands, path-meets, path-collect, path-set}
 use Rattle.psa_prep.proofs.paths.lower_step.Goals as goal
 
 pub lower_collected-requires-clause-stands : goal.lower_collected-requires-clause-stands

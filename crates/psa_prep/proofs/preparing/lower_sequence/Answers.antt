@@ -1,4 +1,4 @@
-use Rattle.std.proofs.Common.{◌≡◌, List, [], reverse, ap, sym, subst, refl}
+use Rattle.std.proofs.Common.{List, reverse, ap, sym, subst}
 use Rattle.psa_prep.specs.declared.states.Setting.{Setting}
 use Rattle.psa_prep.specs.Paths.{IsStarted, settings_of}
 use Rattle.psa_prep.proofs.TargetLemmas.{sequence-made}

@@ -1,8 +1,6 @@
-use Rattle.std.proofs.Common.{◌≡◌, List, [], reverse, ap, sym, subst, refl, arith}
+use Rattle.std.proofs.Common.{List, reverse, ap, sym, subst, arith}
 use Rattle.psa_prep.specs.declared.states.Setting.{Setting}
 use Rattle.psa_prep.specs.Paths.{IsStarted, settings_of}
-use Rattle.psa_prep.specs.Sound.{IsSound}
-use Rattle.psa_prep.specs.Paths.{task_world}
 use Rattle.psa_prep.proofs.TargetLemmas.{top-meets, top-made}
 use Rattle.psa_prep.proofs.WalkLemmas.{gate-deep}
 use Rattle.psa_prep.proofs.preparing.lower_top.Goals as goal

@@ -1,4 +1,4 @@
-use Rattle.std.proofs.Common.{◌≡◌, ◌<◌, ◌≤◌, ◌^◌, List, length, ap, sym, ◌∙◌, subst, refl, arith}
+use Rattle.std.proofs.Common.{◌≡◌, ◌<◌, ◌^◌, List, length, ap, sym, ◌∙◌, subst, refl, arith}
 use Rattle.psa_model.specs.declared.ids.EventNumber.{EventNumber}
 use Rattle.psa_model.specs.Ranks.{ranks_of}
 use Rattle.psa_prep.specs.Lowering.{AreRanks}

@@ -1,4 +1,4 @@
-use Rattle.std.proofs.Common.{ap, map, refl}
+use Rattle.std.proofs.Common.{ap, map}
 use Rattle.psa_model.specs.declared.ids.EventNumber.{EventNumber}
 use Rattle.psa_prep.proofs.WalkLemmas.{sound-empty, ranks-answer, many-answer}
 use Rattle.psa_prep.proofs.ranking.rank_by_index.Goals as goal

@@ -1,5 +1,4 @@
 use Rattle.std.proofs.lemmas.Result.{err_from_is_err_and}
-use Rattle.std.proofs.Common.{[], refl}
 use Rattle.std.proofs.lemmas.List.{get_or_default}
 use Rattle.psa_prep.specs.Ranking.{step_visits}
 use Rattle.psa_prep.proofs.WalkLemmas.{list-start, list-more, list-end, exceeds-at, stops-map}

@@ -1,5 +1,5 @@
 use Rattle.std.proofs.lemmas.Result.{err_from_is_err_and}
-use Rattle.std.proofs.Common.{List, subst, refl}
+use Rattle.std.proofs.Common.{List, subst}
 use Rattle.std.specs.List.{flat_map}
 use Rattle.psa_prep.specs.Ranking.{step_visits, RanksList, Exceeds}
 use Rattle.psa_model.specs.declared.targets.PathStep.{PathStep}

@@ -1,4 +1,4 @@
-use Rattle.std.proofs.Common.{◌<◌, ◌≤◌, length, ◌∙◌, ap, refl, arith}
+use Rattle.std.proofs.Common.{◌<◌, ◌≤◌, length, ◌∙◌, ap, arith}
 use Rattle.psa_prep.specs.Index.{empties}
 use Rattle.psa_prep.proofs.ListLemmas.{item-of}
 use Rattle.psa_prep.proofs.IndexLemmas.{indexed-start, indexed-more, indexed-end}

@@ -1,6 +1,6 @@
-use Rattle.std.proofs.Common.{◌≡◌, ◌<◌, ◌≤◌, ◌-◌, length, reverse, sym, ◌∙◌, refl, arith}
+use Rattle.std.proofs.Common.{◌<◌, length, reverse, sym, ◌∙◌, arith}
 use Rattle.psa_model.specs.Truth.{house_states}
-use Rattle.psa_prep.proofs.StateLemmas.{state-here, state-before, setting-before, states-length, set-there, set-made, same-state}
+use Rattle.psa_prep.proofs.StateLemmas.{states-length, set-there, set-made, same-state}
 use Rattle.psa_prep.proofs.PlaceLemmas.{if-ok}
 use Rattle.psa_prep.proofs.states.HouseStates.set.Goals as goal
 

@@ -1,4 +1,4 @@
-use Rattle.std.proofs.Common.{◌-◌, ◌∙◌, sym, ap, arith}
+use Rattle.std.proofs.Common.{◌-◌, ◌∙◌, sym}
 use Rattle.psa_prep.proofs.PlaceLemmas.{older_at-key}
 use Rattle.psa_prep.proofs.states.HouseStates.setting.Goals as goal
 

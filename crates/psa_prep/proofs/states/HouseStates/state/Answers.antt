@@ -1,8 +1,8 @@
-use Rattle.std.proofs.Common.{◌≡◌, ◌<◌, ◌≤◌, ◌-◌, length, reverse, sym, ap, ◌∙◌, refl, arith}
+use Rattle.std.proofs.Common.{◌≡◌, ◌<◌, length, reverse, sym, ap, ◌∙◌, arith}
 use Rattle.std.specs.List.{slice_get}
 use Rattle.psa_model.specs.Truth.{house_states, state_of}
 use Rattle.psa_prep.specs.States.{houses_at}
-use Rattle.psa_prep.proofs.StateLemmas.{houses-none, state-here, state-before, setting-before, states-length, set-there, set-made, same-state}
+use Rattle.psa_prep.proofs.StateLemmas.{houses-none, state-here, state-before, setting-before, states-length}
 use Rattle.psa_prep.proofs.states.HouseStates.state.Goals as goal
 
 pub returns-then-setting-house : goal.returns-then-setting-house
