@@ -1,8 +1,5 @@
 -- Which definitions stand at an address, and the first of them.
-use Rattle.std.proofs.Common.{◌≡◌, ◌<◌, ◌+◌, ◌||◌, ◌&&◌, ◌==◌, ℕ, zero, suc, Bool, true, false, List, [], ◌∷◌, ◌++◌, length, map, position, slice_get, Option, Some, None, is_some, not, if◌then◌else◌, refl, sym, ap, ◌∙◌, subst, arith, eqb-true, eq-eqb}
-use Rattle.std.proofs.lemmas.Bool.{false≢true}
-use Rattle.std.proofs.lemmas.Iterator.Adapters.{position_from-zero}
-use Rattle.std.proofs.Math.Bool.{and-true}
+use Rattle.std.proofs.Common.{◌≡◌, ◌+◌, ◌||◌, ◌&&◌, ◌==◌, ℕ, suc, Bool, true, false, List, [], ◌∷◌, ◌++◌, length, slice_get, Some, None, is_some, if◌then◌else◌, refl, sym, ap, ◌∙◌, arith, eqb-true, eq-eqb}
 use Rattle.std.specs.List.{list_any, position_from}
 use Rattle.std.specs.Str.{bytes_eq}
 use denote.Enum.Declared.{tag_of}
@@ -16,9 +13,9 @@ use Rattle.psa_spaces.specs.declared.key.Key.{Key}
 use Rattle.psa_spaces.specs.Paths.{Path, IsPath, AreContainers}
 use Rattle.psa_names.specs.NameSpaces as space
 use Rattle.psa_names.specs.Outlines.{Entry, Entries}
-use Rattle.psa_lookup.specs.Keys.{kept_as, has_whole, has_inside, is_contained, whole_address, inside_address, only_if, family_kept, whole_wanted, inside_wanted, addresses_with, number_of, stands_at, first_with}
+use Rattle.psa_lookup.specs.Keys.{kept_as, whole_address, inside_address, only_if, family_kept, whole_wanted, inside_wanted, addresses_with, number_of, stands_at, first_with}
 use Rattle.psa_lookup.specs.Noting.{after_noting}
-use Rattle.psa_lookup.proofs.BoolLemmas.{both, any-append}
+use Rattle.psa_lookup.proofs.BoolLemmas.{both}
 use Rattle.psa_lookup.proofs.NumberLemmas.{number-is, texts-same, same-texts}
 
 -- ---- families

@@ -1,5 +1,5 @@
 -- The references in each part of a definition.
-use Rattle.std.proofs.Common.{◌≡◌, ◌<◌, ◌+◌, ◌-◌, ℕ, zero, suc, Bool, true, false, List, [], ◌∷◌, ◌++◌, length, take, get_or, map, flat_map, filter_map, Option, Some, None, if◌then◌else◌, refl, sym, ap, ◌∙◌, arith, append_assoc, append-nil}
+use Rattle.std.proofs.Common.{◌≡◌, ◌<◌, ◌+◌, ◌-◌, ℕ, zero, suc, Bool, true, false, List, [], ◌∷◌, ◌++◌, length, take, get_or, map, flat_map, Option, refl, sym, ap, ◌∙◌, arith, append_assoc, append-nil}
 use Rattle.psa_number.specs.Scaled.{Scaled}
 use Rattle.psa_model.specs.PathNames.{Text, is_path}
 use Rattle.psa_model.specs.declared.formula.Connective.{Connective}
@@ -12,15 +12,15 @@ use Rattle.psa_model.specs.declared.draft.DraftFormula.TheVariants as formula
 use Rattle.psa_model.specs.declared.draft.DraftExpression.{DraftExpression}
 use Rattle.psa_model.specs.declared.draft.DraftExpression.TheOpen.{DraftExpression-F}
 use Rattle.psa_model.specs.declared.draft.DraftExpression.TheVariants as expression
-use Rattle.psa_model.specs.declared.draft.DraftExpression.TheFolds.{fold-DraftExpression, fold-roll-DraftExpression, map-DraftExpression}
+use Rattle.psa_model.specs.declared.draft.DraftExpression.TheFolds.{fold-roll-DraftExpression}
 use Rattle.psa_model.specs.declared.draft.DraftTest.{DraftTest}
 use Rattle.psa_model.specs.declared.draft.DraftTest.TheOpen.{DraftTest-F}
 use Rattle.psa_model.specs.declared.draft.DraftTest.TheVariants as test
-use Rattle.psa_model.specs.declared.draft.DraftTest.TheFolds.{fold-DraftTest, fold-roll-DraftTest}
+use Rattle.psa_model.specs.declared.draft.DraftTest.TheFolds.{fold-roll-DraftTest}
 use Rattle.psa_model.specs.declared.draft.DraftInstruction.{DraftInstruction}
 use Rattle.psa_model.specs.declared.draft.DraftInstruction.TheOpen.{DraftInstruction-F}
 use Rattle.psa_model.specs.declared.draft.DraftInstruction.TheVariants as instruction
-use Rattle.psa_model.specs.declared.draft.DraftInstruction.TheFolds.{fold-DraftInstruction, fold-roll-DraftInstruction}
+use Rattle.psa_model.specs.declared.draft.DraftInstruction.TheFolds.{fold-roll-DraftInstruction}
 use Rattle.psa_model.specs.declared.draft.DraftBranch.{DraftBranch}
 use Rattle.psa_model.specs.declared.draft.DraftForkPath.{DraftForkPath}
 use Rattle.psa_model.specs.declared.draft.DraftBranchEnd.{DraftBranchEnd, out-DraftBranchEnd}

@@ -1,6 +1,6 @@
 -- What is promised of a draft, as the look-up needs it.
-use Rattle.std.proofs.Common.{◌≡◌, ◌≤◌, ◌<◌, ◌+◌, ◌^◌, ℕ, List, [], ◌∷◌, length, map, sum, refl, sym, ap, ◌∙◌, arith}
-use Rattle.psa_model.specs.Drafts.{IsDraft, member_count, draft_size, contents_of}
+use Rattle.std.proofs.Common.{◌≡◌, ◌<◌, ◌^◌, List, [], ◌∷◌, length, map, sum, refl, ap, arith}
+use Rattle.psa_model.specs.Drafts.{IsDraft, member_count}
 use Rattle.psa_model.specs.declared.draft.Draft.{Draft}
 use Rattle.psa_model.specs.declared.draft.DraftBody.{DraftBody}
 use Rattle.psa_model.specs.declared.draft.DraftBody.TheVariants as body

@@ -1,23 +1,16 @@
 -- The names that groups define, group after group.
-use Rattle.std.proofs.Common.{◌≡◌, ◌≤◌, ◌<◌, ◌+◌, ◌||◌, ◌&&◌, ℕ, zero, suc, Bool, true, false, List, [], ◌∷◌, ◌++◌, length, map, flat_map, filter, take, sum, slice_get, Option, Some, None, is_some, not, if◌then◌else◌, refl, sym, ap, ◌∙◌, subst, arith, append_assoc, append-nil, length-append}
-use Rattle.std.proofs.lemmas.Bool.{false≢true}
+use Rattle.std.proofs.Common.{◌≡◌, ◌≤◌, ◌+◌, ◌&&◌, ℕ, zero, suc, Bool, true, false, List, [], ◌∷◌, ◌++◌, length, map, flat_map, take, sum, slice_get, Option, Some, None, is_some, not, if◌then◌else◌, refl, sym, ap, ◌∙◌, arith, length-append}
 use Rattle.std.proofs.lemmas.List.Sums.{sum_by-cons}
-use Rattle.std.specs.List.{list_any, position_from}
+use Rattle.std.specs.List.{position_from}
 use Rattle.std.specs.Str.{bytes_eq}
-use Rattle.std.specs.Option.{option_map}
 use Rattle.psa_model.specs.PathNames.{Text, is_path}
 use Rattle.psa_model.specs.declared.draft.DraftReference.{DraftReference}
 use Rattle.psa_model.specs.declared.draft.DraftDefinition.{DraftDefinition}
-use Rattle.psa_model.specs.Drafts.{member_count}
-use Rattle.psa_spaces.specs.Addresses.{Address, place_of, place_after, same_address}
-use Rattle.psa_spaces.specs.declared.key.Key.{Key}
-use Rattle.psa_names.specs.Found.{defined_by_groups, meaning_of_sense}
 use Rattle.psa_names.specs.NameSpaces.{events}
 use Rattle.psa_names.specs.Outlines.{Entry, Entries, entry_of}
-use Rattle.psa_names.specs.Meanings.{Meaning, of_group, definition_named, defined_by_group, is_defined_by_group, members_of}
-use Rattle.psa_lookup.specs.Grouping.{grouped_address, absent_names, first_grouped}
-use Rattle.psa_lookup.proofs.AddressLemmas.{first-one, first-some, first-same}
-use Rattle.psa_lookup.proofs.BoolLemmas.{any-flat, any-same, text-turned, flat-one, map-one}
+use Rattle.psa_names.specs.Meanings.{definition_named, defined_by_group, members_of}
+use Rattle.psa_lookup.specs.Grouping.{absent_names, first_grouped}
+use Rattle.psa_lookup.proofs.AddressLemmas.{first-one}
 
 abbrev pub is_absent_in : Entries → List Text → Text → Bool
 is_absent_in entries container name = not (is_path name) && not (is_some (definition_named entries events container name))

@@ -1,5 +1,5 @@
 -- Which kinds of events are asked for.
-use Rattle.std.proofs.Common.{◌≡◌, Bool, refl}
+use Rattle.std.proofs.Common.{◌≡◌, refl}
 use denote.Enum.Bare.{sameb}
 use Rattle.psa_model.specs.contracts.draft.DefinitionKind as kinds
 use Rattle.psa_model.specs.declared.draft.DefinitionKind.{DefinitionKind}

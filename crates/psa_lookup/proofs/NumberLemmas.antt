@@ -1,16 +1,15 @@
 -- The numbers of containers, one definition after the other.
-use Rattle.std.proofs.Common.{◌≡◌, ◌<◌, ◌+◌, ◌-◌, ◌⊎◌, inl, inr, ℕ, Bool, true, false, List, [], ◌∷◌, ◌++◌, length, take, get_or, slice_get, position, unwrap_or, Option, Some, None, refl, sym, ap, ◌∙◌, subst, arith, length-append}
+use Rattle.std.proofs.Common.{◌≡◌, ◌-◌, ◌⊎◌, inl, inr, ℕ, true, List, [], ◌∷◌, ◌++◌, length, get_or, slice_get, unwrap_or, Option, Some, None, refl, sym, ap, ◌∙◌, subst, arith, length-append}
 use Rattle.std.proofs.lemmas.Bool.{false≢true, and_parts, and_from}
-use Rattle.std.proofs.lemmas.Option.{slice_get-get_or, slice_get_within, get_or_from_slice_get}
+use Rattle.std.proofs.lemmas.Option.{get_or_from_slice_get}
 use Rattle.std.proofs.lemmas.Iterator.Adapters.{position_from-zero}
 use Rattle.std.specs.List.{position_from}
 use Rattle.std.specs.Str.{bytes_eq}
 use Rattle.psa_model.specs.Drafts.{same_texts}
 use Rattle.psa_model.specs.PathNames.{Text}
 use Rattle.psa_model.specs.declared.draft.DraftDefinition.{DraftDefinition}
-use Rattle.psa_spaces.specs.Paths.{Path, path_at, IsPath, AreContainers}
+use Rattle.psa_spaces.specs.Paths.{Path, IsPath, AreContainers}
 use Rattle.psa_spaces.proofs.ListLemmas.{at-front, at-end, back-cases, first-at, first-none}
-use Rattle.psa_spaces.proofs.ContainerLemmas.{path-is}
 use Rattle.psa_lookup.specs.Keys.{number_of}
 use Rattle.psa_lookup.specs.Numbers.{IsNumbered}
 use Rattle.psa_lookup.proofs.BoolLemmas.{text-same, same-text}

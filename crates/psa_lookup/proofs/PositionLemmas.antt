@@ -1,10 +1,9 @@
 -- The order of positions, and the fault that stands first.
-use Rattle.std.proofs.Common.{◌≡◌, ◌≤◌, ◌<◌, ◌||◌, ◌&&◌, ◌==◌, ◌⊎◌, inl, inr, ℕ, zero, suc, Bool, true, false, cond, List, [], ◌∷◌, ◌++◌, length, take, slice_get, Option, Some, None, map, flat_map, if◌then◌else◌, refl, sym, ap, ◌∙◌, subst, arith, eqb-true, eq-eqb}
+use Rattle.std.proofs.Common.{◌≡◌, ◌≤◌, ◌<◌, ◌||◌, ◌&&◌, ◌==◌, ◌⊎◌, inl, inr, ℕ, zero, suc, Bool, true, false, List, [], ◌∷◌, ◌++◌, take, slice_get, Option, Some, None, map, flat_map, refl, sym, ap, ◌∙◌, subst, arith, eqb-true, eq-eqb}
 use Rattle.std.proofs.lemmas.Bool.{false≢true, and_parts, and_from, ltb-true, lt-ltb, cases_lt}
 use Rattle.std.specs.List.{list_any}
 use Rattle.std.specs.Prelude.{nat_lt}
-use Rattle.psa_model.specs.Drafts.{Position, position_of, stands_before, are_ascending}
-use Rattle.psa_model.specs.declared.draft.DraftDefinition.{DraftDefinition}
+use Rattle.psa_model.specs.Drafts.{Position, stands_before, are_ascending}
 use Rattle.psa_names.specs.PlacedFaults.{PlacedFault, earlier, earliest}
 use Rattle.psa_lookup.specs.Sooner.{sooner_of}
 use Rattle.psa_lookup.proofs.BoolLemmas.{flat-one}

@@ -1,8 +1,7 @@
 -- The repeats that are found one after the other are the duplicates.
-use Rattle.std.proofs.Common.{◌≡◌, ◌<◌, ◌+◌, ◌||◌, ◌&&◌, ◌==◌, ℕ, zero, suc, Bool, true, false, List, [], ◌∷◌, ◌++◌, length, map, filter, flat_map, take, slice_get, Option, Some, None, is_some, not, if◌then◌else◌, refl, sym, ap, ◌∙◌, subst, arith, rules, append_assoc, append-nil}
+use Rattle.std.proofs.Common.{◌≡◌, ◌||◌, ◌&&◌, ◌==◌, ℕ, zero, suc, Bool, true, false, List, [], ◌∷◌, ◌++◌, length, map, filter, flat_map, take, slice_get, Option, Some, None, is_some, not, if◌then◌else◌, refl, sym, ap, ◌∙◌, subst, rules, append_assoc, append-nil}
 use Rattle.std.proofs.lemmas.Bool.{false≢true}
-use Rattle.std.proofs.Math.Bool.{and-true}
-use Rattle.std.specs.List.{list_any, position_from}
+use Rattle.std.specs.List.{list_any}
 use Rattle.std.specs.Str.{bytes_eq}
 use denote.Enum.Bare.{same_true}
 use Rattle.psa_spaces.specs.contracts.key.Family as families
@@ -16,12 +15,12 @@ use Rattle.psa_names.specs.NameSpaces.{Space, Named, Family, spaces_of, scoped_s
 use Rattle.psa_names.specs.NameFaults.{duplicates}
 use Rattle.psa_names.specs.PlacedFaults.{PlacedFault, fault_at, fault_of}
 use Rattle.psa_names.specs.Outlines.{Entry, Entries, ForkState}
-use Rattle.psa_lookup.specs.Keys.{kept_as, has_whole, has_inside, is_contained, is_one_in_whole, whole_address, inside_address, family_kept, whole_wanted, inside_wanted, addresses_with, number_of, stands_at, first_with}
+use Rattle.psa_lookup.specs.Keys.{kept_as, has_whole, has_inside, is_contained, is_one_in_whole, whole_address, inside_address, family_kept, whole_wanted, inside_wanted, number_of, stands_at, first_with}
 use Rattle.psa_lookup.specs.Repeats.{is_noted_by, repeats_before, same_state, lesser, least_from, states_in, least_state, is_behind, state_fault, state_repeat, definition_repeat, repeats_at, repeats_from}
 use Rattle.psa_lookup.proofs.AddressLemmas.{same_kept, kept-same, at-whole, at-inside, same-number, first-some}
-use Rattle.psa_lookup.proofs.BoolLemmas.{both, text-turned, eq-turned, any-append, any-map, any-flat, any-same, any-never, or-assoc, and-assoc}
+use Rattle.psa_lookup.proofs.BoolLemmas.{both, text-turned, eq-turned, any-map, any-flat, any-same, any-never, or-assoc, and-assoc}
 use Rattle.psa_lookup.proofs.NumberLemmas.{number-is, texts-same, same-texts}
-use Rattle.psa_lookup.proofs.PositionLemmas.{any-before, before-trans, before-split, before-not-back}
+use Rattle.psa_lookup.proofs.PositionLemmas.{any-before, before-trans, before-split}
 
 -- ---- the spaces of a definition
 

@@ -1,8 +1,8 @@
 -- A table whose places are the first of each address answers the searches among definitions.
-use Rattle.std.proofs.Common.{◌≡◌, ◌<◌, ◌+◌, ◌||◌, ◌&&◌, ◌==◌, ℕ, zero, suc, Bool, true, false, List, [], ◌∷◌, ◌++◌, length, map, position, slice_get, Option, Some, None, not, if◌then◌else◌, refl, sym, ap, ◌∙◌, subst, arith, rules}
+use Rattle.std.proofs.Common.{◌≡◌, ◌+◌, ◌&&◌, ◌==◌, ℕ, zero, suc, Bool, true, false, List, [], ◌∷◌, map, slice_get, Some, None, not, if◌then◌else◌, refl, sym, ap, ◌∙◌, subst, rules}
 use Rattle.std.proofs.lemmas.Bool.{false≢true}
 use Rattle.std.proofs.lemmas.Iterator.Adapters.{position_from-zero}
-use Rattle.std.specs.List.{list_any, position_from}
+use Rattle.std.specs.List.{position_from}
 use Rattle.std.specs.Str.{bytes_eq}
 use denote.Enum.Bare.{same_true}
 use Rattle.psa_model.specs.Drafts.{same_texts}
@@ -17,12 +17,12 @@ use Rattle.psa_spaces.specs.Paths.{Path, IsPath, AreContainers}
 use Rattle.psa_names.specs.NameSpaces as space
 use Rattle.psa_names.specs.NameSpaces.{is_in_family, same_family, family_of}
 use Rattle.psa_names.specs.Outlines.{Entry, Entries, entry_of}
-use Rattle.psa_names.specs.Meanings.{has_name, in_whole_model, public_one, one_directly_in}
+use Rattle.psa_names.specs.Meanings.{has_name}
 use Rattle.psa_lookup.specs.Keys.{kept_as, has_whole, has_inside, is_contained, whole_address, inside_address, family_kept, whole_wanted, inside_wanted, number_of, stands_at, first_with}
 use Rattle.psa_lookup.specs.Numbers.{IsNumbered}
 use Rattle.psa_lookup.specs.Tables.{meant, IsRight}
 use Rattle.psa_lookup.proofs.AddressLemmas.{same_kept, kept-same, at-whole, at-inside, same-number, first-same}
-use Rattle.psa_lookup.proofs.NumberLemmas.{texts-same, same-texts}
+use Rattle.psa_lookup.proofs.NumberLemmas.{texts-same}
 use Rattle.psa_lookup.proofs.RepeatLemmas.{Stands}
 
 pub kept-meant : (family : Family) → kept_as (meant family) ≡ family

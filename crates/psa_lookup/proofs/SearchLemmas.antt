@@ -1,9 +1,9 @@
 -- The search for a name, from a container outwards and along a path.
-use Rattle.std.proofs.Common.{◌≡◌, ◌≤◌, ◌<◌, ◌+◌, ◌-◌, ◌==◌, ℕ, zero, suc, Bool, true, false, List, [], ◌∷◌, ◌++◌, length, map, take, drop, get_or, position, slice_get, nat_lt, Option, Some, None, IfSome, IfNone, is_some, unwrap_or, nat_le, if◌then◌else◌, refl, sym, ap, ◌∙◌, subst, arith, append_assoc, length-append, length-drop}
+use Rattle.std.proofs.Common.{◌≡◌, ◌≤◌, ◌<◌, ◌+◌, ◌-◌, ◌==◌, ℕ, zero, suc, Bool, true, false, List, [], ◌∷◌, ◌++◌, length, map, take, drop, position, nat_lt, Option, Some, None, is_some, unwrap_or, nat_le, if◌then◌else◌, refl, sym, ap, ◌∙◌, subst, arith, append_assoc, length-append, length-drop}
 use Rattle.std.proofs.lemmas.Bool.{false≢true, ltb-true, le-leb}
 use Rattle.std.proofs.lemmas.Iterator.Adapters.{position_from-zero}
 use Rattle.std.proofs.lemmas.List.Splits.{slice_split_first, length-slice_split}
-use Rattle.std.specs.List.{list_any, last_or, slice_split, position_or_len, position_from, onto_first, count_by}
+use Rattle.std.specs.List.{last_or, position_or_len, position_from, onto_first, count_by}
 use Rattle.std.specs.Option.{option_or}
 use Rattle.psa_model.specs.PathNames.{Text, dot, name_parts, is_path}
 use Rattle.psa_spaces.specs.Paths.{Path, path_at, IsPath, IsAround, AreContainers}
@@ -11,7 +11,7 @@ use Rattle.psa_spaces.specs.Addresses.{place_of}
 use Rattle.psa_spaces.specs.declared.key.Family.{Family}
 use Rattle.psa_spaces.specs.declared.key.Key.{Key}
 use Rattle.psa_names.specs.NameSpaces as space
-use Rattle.psa_names.specs.Outlines.{Entry, Entries}
+use Rattle.psa_names.specs.Outlines.{Entries}
 use Rattle.psa_spaces.specs.declared.key.Family.TheVariants as kept
 use Rattle.psa_spaces.proofs.ContainerLemmas.{path-stands}
 use Rattle.psa_lookup.specs.Keys.{has_inside, is_contained, inside_address}

@@ -1,9 +1,8 @@
 -- What is found of a name is what it means.
-use Rattle.std.proofs.Common.{◌≡◌, ◌≤◌, ◌<◌, ◌+◌, ◌-◌, ◌||◌, ◌&&◌, ℕ, zero, suc, Bool, true, false, List, [], ◌∷◌, ◌++◌, length, map, filter_map, slice_get, Option, Some, None, is_some, not, if◌then◌else◌, refl, sym, ap, ◌∙◌, subst, arith, append-nil, append_assoc}
-use Rattle.std.proofs.lemmas.Bool.{false≢true}
-use Rattle.std.specs.List.{list_any, position_from}
+use Rattle.std.proofs.Common.{◌≡◌, ◌-◌, ◌&&◌, ℕ, zero, suc, Bool, true, false, List, [], ◌∷◌, ◌++◌, map, slice_get, Option, Some, None, is_some, not, if◌then◌else◌, refl, sym, ap, ◌∙◌, subst, arith, append_assoc}
+use Rattle.std.specs.List.{position_from}
 use Rattle.std.specs.Str.{bytes_eq}
-use Rattle.std.specs.Option.{option_map, option_or, option_map_or, option_to_list}
+use Rattle.std.specs.Option.{option_map, option_or, option_to_list}
 use Rattle.psa_model.specs.Drafts.{stands_before}
 use Rattle.psa_model.specs.PathNames.{Text, is_path}
 use Rattle.psa_model.specs.declared.fault.FaultKind.{FaultKind}
@@ -13,7 +12,7 @@ use Rattle.psa_names.specs.Found.{defined_by_groups, meaning_of_sense}
 use Rattle.psa_names.specs.NameSpaces.{events}
 use Rattle.psa_names.specs.Outlines.{Entry, Entries, Reference, entry_of}
 use Rattle.psa_names.specs.Meanings.{Meaning, definition, of_group, definition_named, defined_by_group, is_defined_by_group, meaning_of_event, meaning_of}
-use Rattle.psa_names.specs.NameFaults.{fault_of_reference, reference_fault, means_kind}
+use Rattle.psa_names.specs.NameFaults.{fault_of_reference, reference_fault}
 use Rattle.psa_names.specs.PlacedFaults.{PlacedFault, earliest}
 use Rattle.psa_names.specs.declared.found.Sense.{Sense}
 use Rattle.psa_names.specs.declared.found.Sense.TheVariants.{Definition, OfGroup}
@@ -24,7 +23,7 @@ use Rattle.psa_lookup.specs.declared.placed.Placed.{Placed}
 use Rattle.psa_lookup.specs.declared.pass.Pass.{Pass}
 use Rattle.psa_lookup.proofs.AddressLemmas.{first-some}
 use Rattle.psa_lookup.proofs.BoolLemmas.{any-flat, any-same, text-turned, text-same, map-one}
-use Rattle.psa_lookup.proofs.PositionLemmas.{earliest-append, sooner-none}
+use Rattle.psa_lookup.proofs.PositionLemmas.{earliest-append}
 
 -- ---- events
 

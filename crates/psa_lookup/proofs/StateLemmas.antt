@@ -1,25 +1,25 @@
 -- The states of forks, and the first position of each.
-use Rattle.std.proofs.Common.{◌≡◌, ◌≤◌, ◌<◌, ◌+◌, ◌-◌, ◌||◌, ◌&&◌, ◌==◌, ℕ, zero, suc, Bool, true, false, cond, List, [], ◌∷◌, ◌++◌, length, take, get_or, Option, Some, None, Result, Ok, Err, OnOk, map, flat_map, if◌then◌else◌, refl, sym, ap, ◌∙◌, subst, arith, append-nil, append_assoc, eqb-true}
+use Rattle.std.proofs.Common.{◌≡◌, ◌<◌, ◌+◌, ◌-◌, ◌&&◌, ◌==◌, ℕ, zero, suc, Bool, true, false, cond, List, [], ◌∷◌, ◌++◌, length, take, get_or, Option, Some, Result, Ok, Err, OnOk, map, if◌then◌else◌, refl, sym, ap, ◌∙◌, arith, append_assoc, eqb-true}
 use Rattle.std.proofs.lemmas.Bool.{and_parts}
 use Rattle.std.specs.Map.{lookup}
 use Rattle.std.specs.Option.{option_map}
 use Rattle.std.specs.Str.{bytes_eq}
 use Rattle.psa_model.specs.PathNames.{Text}
-use Rattle.psa_model.specs.Drafts.{Position, path_position, reference_position, same_position, stands_before}
+use Rattle.psa_model.specs.Drafts.{Position, path_position}
 use Rattle.psa_model.specs.declared.draft.DraftBranch.{DraftBranch}
-use Rattle.psa_model.specs.declared.draft.DraftBranchEnd.{DraftBranchEnd, out-DraftBranchEnd}
+use Rattle.psa_model.specs.declared.draft.DraftBranchEnd.{out-DraftBranchEnd}
 use Rattle.psa_model.specs.declared.draft.DraftBranchEnd.TheOpen.{DraftBranchEnd-F}
 use Rattle.psa_model.specs.declared.draft.DraftBranchEnd.TheViews.{out-roll-DraftBranchEnd}
 use Rattle.psa_model.specs.declared.draft.DraftBranchEnd.TheVariants as end
 use Rattle.psa_model.specs.declared.draft.DraftDefinition.{DraftDefinition}
 use Rattle.psa_model.specs.declared.draft.DraftForkPath.{DraftForkPath}
 use Rattle.psa_model.specs.declared.draft.DraftReference.{DraftReference}
-use Rattle.psa_names.specs.Outlines.{ForkState, Entry, Entries, branch_states, end_states, entry_of, states_of}
+use Rattle.psa_names.specs.Outlines.{ForkState, Entry, branch_states, end_states, entry_of, states_of}
 use Rattle.psa_names.proofs.Forms.{out-fork, out-sequence}
 use Rattle.psa_lookup.specs.declared.states.State.{State}
 use Rattle.psa_lookup.specs.declared.states.StateKey.{StateKey}
 use Rattle.psa_lookup.specs.declared.states.Spot.{Spot}
-use Rattle.psa_lookup.specs.Repeats.{same_state, lesser, least_from, states_in, least_state}
+use Rattle.psa_lookup.specs.Repeats.{same_state, lesser, least_from, states_in}
 use Rattle.psa_lookup.specs.States.{fork_state, fork_states, spot_position, is_key_of, first_spot, path_states}
 use Rattle.psa_lookup.proofs.BoolLemmas.{eq-turned, text-turned, text-same, and-assoc, one-more-taken, flat-one, map-one}
 

@@ -1,5 +1,5 @@
 -- References as they are kept, and those of the parts of a definition. (This project's own.)
-use Rattle.std.specs.Prelude.{ℕ, List, map, flat_map, filter_map, Option, Some, None, if◌then◌else◌}
+use Rattle.std.specs.Prelude.{ℕ, List, map, flat_map, filter_map, Some, None, if◌then◌else◌}
 use Rattle.psa_model.specs.PathNames.{is_path}
 use Rattle.psa_model.specs.declared.draft.DraftBranch.{DraftBranch}
 use Rattle.psa_model.specs.declared.draft.DraftFactor.{DraftFactor}

@@ -1,5 +1,5 @@
 -- The events that groups define, as they are kept. (This project's own.)
-use Rattle.std.specs.Prelude.{ℕ, Bool, List, Option, map, filter, is_some, ◌&&◌, not, if◌then◌else◌}
+use Rattle.std.specs.Prelude.{ℕ, List, Option, map, filter, is_some, ◌&&◌, not, if◌then◌else◌}
 use Rattle.std.specs.List.{position_from}
 use Rattle.std.specs.Str.{bytes_eq}
 use Rattle.psa_model.specs.PathNames.{Text, is_path}

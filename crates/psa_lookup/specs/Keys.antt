@@ -1,5 +1,5 @@
 -- Under which addresses a definition stands: the name spaces of `psa_names` as keys of a table. (This project's own.)
-use Rattle.std.specs.Prelude.{◌≡◌, ℕ, Bool, true, false, List, [], ◌∷◌, ◌++◌, Option, Some, None, not, unwrap_or, position, if◌then◌else◌}
+use Rattle.std.specs.Prelude.{ℕ, Bool, true, false, List, [], ◌∷◌, ◌++◌, Option, not, unwrap_or, position}
 use Rattle.std.specs.List.{list_any, position_from}
 use Rattle.psa_model.specs.Drafts.{same_texts}
 use Rattle.psa_model.specs.PathNames.{Text}
@@ -7,7 +7,7 @@ use Rattle.psa_spaces.specs.Addresses.{Address, same_address}
 use Rattle.psa_spaces.specs.Paths.{Path}
 use Rattle.psa_spaces.specs.declared.key.Family.{Family}
 use Rattle.psa_spaces.specs.declared.key.Family.TheVariants as kept
-use Rattle.psa_spaces.specs.declared.key.Scope.TheVariants.{Whole, Inside, Grouped}
+use Rattle.psa_spaces.specs.declared.key.Scope.TheVariants.{Whole, Inside}
 use Rattle.psa_names.specs.NameSpaces as space
 use Rattle.psa_names.specs.Outlines.{Entry, Entries}
 

@@ -1,5 +1,5 @@
 -- Names that stand twice, one definition after the other. (This project's own.)
-use Rattle.std.specs.Prelude.{◌≡◌, ℕ, Bool, true, false, List, [], ◌∷◌, ◌++◌, Option, Some, None, is_some, map, flat_map, ◌&&◌, ◌||◌, if◌then◌else◌}
+use Rattle.std.specs.Prelude.{ℕ, Bool, false, List, [], ◌∷◌, ◌++◌, Option, Some, None, is_some, flat_map, ◌&&◌, ◌||◌, if◌then◌else◌}
 use Rattle.std.specs.Str.{bytes_eq}
 use Rattle.psa_model.specs.Drafts.{Position, path_position, reference_position, same_position, stands_before}
 use Rattle.psa_model.specs.declared.fault.FaultKind.TheVariants.{Duplicate}

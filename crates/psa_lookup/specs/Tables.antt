@@ -1,5 +1,5 @@
 -- What a table of names answers. (This project's own.)
-use Rattle.std.specs.Prelude.{◌≡◌, ◌<◌, ◌^◌, ℕ, Bool, true, List, None, Option, map, length}
+use Rattle.std.specs.Prelude.{◌≡◌, ◌<◌, ◌^◌, ℕ, Bool, true, List, None, map, length}
 use Rattle.psa_model.specs.PathNames.{Text}
 use Rattle.psa_spaces.specs.Addresses.{place_of}
 use Rattle.psa_spaces.specs.Paths.{Path, IsPath, AreContainers}
@@ -7,9 +7,9 @@ use Rattle.psa_spaces.specs.declared.key.Key.{Key}
 use Rattle.psa_spaces.specs.declared.key.Family.{Family}
 use Rattle.psa_spaces.specs.declared.key.Family.TheVariants as kept
 use Rattle.psa_names.specs.NameSpaces as space
-use Rattle.psa_names.specs.Outlines.{Entry, Entries, entry_of}
+use Rattle.psa_names.specs.Outlines.{Entries, entry_of}
 use Rattle.psa_names.specs.Meanings.{in_whole_model, public_one, one_directly_in}
-use Rattle.psa_lookup.specs.Keys.{kept_as, has_whole, has_inside, is_contained, whole_address, inside_address}
+use Rattle.psa_lookup.specs.Keys.{has_whole, has_inside, is_contained, whole_address, inside_address}
 use Rattle.psa_lookup.specs.Numbers.{IsNumbered}
 use Rattle.psa_lookup.specs.declared.table.Table.{Table}
 

@@ -1,4 +1,4 @@
-use Rattle.std.proofs.Common.{◌≡◌, ◌++◌, ◌∷◌, ◌-◌, [], ℕ, List, flat_map, refl, sym, ap, ◌∙◌, arith}
+use Rattle.std.proofs.Common.{◌≡◌, ◌++◌, ◌∷◌, ◌-◌, [], List, flat_map, refl, ap, ◌∙◌, arith}
 use Rattle.psa_model.specs.declared.draft.DraftForkPath.{DraftForkPath}
 use Rattle.psa_model.specs.declared.draft.DraftInstruction.{DraftInstruction}
 use Rattle.psa_names.specs.Chains.{references_in}

@@ -1,4 +1,4 @@
-use Rattle.std.proofs.Common.{◌≡◌, ◌++◌, ◌∷◌, [], List, flat_map, refl, sym, ap, ◌∙◌}
+use Rattle.std.proofs.Common.{◌≡◌, ◌++◌, List, flat_map, sym, ap, ◌∙◌}
 use Rattle.psa_names.specs.Chains.{references_in}
 use Rattle.psa_names.specs.Outlines.{Reference, expression_outline}
 use Rattle.psa_lookup.specs.Asking.{asked_references}

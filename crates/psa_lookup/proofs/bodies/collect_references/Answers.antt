@@ -1,12 +1,12 @@
-use Rattle.std.proofs.Common.{◌≡◌, ◌++◌, [], List, flat_map, refl, sym, ap, ◌∙◌}
+use Rattle.std.proofs.Common.{◌≡◌, ◌++◌, List, flat_map, sym, ap, ◌∙◌}
 use Rattle.psa_model.specs.declared.draft.DraftReference.{DraftReference}
-use Rattle.psa_names.specs.Chains.{references_in, references_of}
+use Rattle.psa_names.specs.Chains.{references_in}
 use Rattle.psa_names.specs.Meanings.{members_of}
-use Rattle.psa_names.specs.Outlines.{Reference, body_outlines, entry_of}
+use Rattle.psa_names.specs.Outlines.{Reference, body_outlines}
 use Rattle.psa_lookup.specs.declared.asked.Asked.{Asked}
 use Rattle.psa_lookup.specs.Asking.{asked_references, member_references}
 use Rattle.psa_lookup.proofs.StateLemmas.{on-ok}
-use Rattle.psa_lookup.proofs.AskedLemmas.{two-added, outline-references}
+use Rattle.psa_lookup.proofs.AskedLemmas.{outline-references}
 use Rattle.psa_lookup.proofs.bodies.collect_references.Goals as goal
 
 pub returns : goal.returns

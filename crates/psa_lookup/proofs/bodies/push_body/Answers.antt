@@ -1,4 +1,4 @@
-use Rattle.std.proofs.Common.{◌≡◌, ◌++◌, List, flat_map, map, sym, ap, ◌∙◌}
+use Rattle.std.proofs.Common.{◌≡◌, ◌++◌, List, flat_map, ap, ◌∙◌}
 use Rattle.psa_model.specs.declared.draft.DraftInstruction.{DraftInstruction}
 use Rattle.psa_model.specs.declared.draft.DraftBody.{DraftBody}
 use Rattle.psa_names.specs.Chains.{references_in}

@@ -1,6 +1,6 @@
-use Rattle.std.proofs.Common.{◌≡◌, ◌++◌, List, flat_map, sym, ap, ◌∙◌}
+use Rattle.std.proofs.Common.{◌≡◌, ◌++◌, flat_map, ap, ◌∙◌}
 use Rattle.psa_names.specs.Chains.{references_in}
-use Rattle.psa_names.specs.Outlines.{Reference, expression_outline, group_outlines}
+use Rattle.psa_names.specs.Outlines.{expression_outline, group_outlines}
 use Rattle.psa_lookup.specs.Asking.{asked_references, factor_references}
 use Rattle.psa_lookup.proofs.StateLemmas.{on-ok}
 use Rattle.psa_lookup.proofs.AskedLemmas.{two-added, group-references}

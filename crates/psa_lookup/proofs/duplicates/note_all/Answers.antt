@@ -1,16 +1,13 @@
-use Rattle.std.proofs.Common.{◌≡◌, ◌<◌, ◌+◌, ◌++◌, ◌∷◌, [], ℕ, List, Option, Some, length, get_or, map, flat_map, take, slice_get, sym, ap, ◌∙◌, arith, append-nil}
+use Rattle.std.proofs.Common.{◌≡◌, ◌+◌, ◌++◌, ◌∷◌, [], ℕ, List, Option, Some, length, get_or, map, flat_map, take, slice_get, sym, ap, ◌∙◌, arith}
 use Rattle.std.proofs.lemmas.List.{length-take-le, length-map}
 use Rattle.std.proofs.lemmas.Option.{slice_get-get_or}
 use Rattle.std.specs.Option.{option_map}
 use Rattle.psa_model.specs.declared.draft.DraftDefinition.{DraftDefinition}
-use Rattle.psa_spaces.specs.Addresses.{Address, place_of}
-use Rattle.psa_spaces.specs.declared.key.Key.{Key}
-use Rattle.psa_spaces.specs.Paths.{Path}
-use Rattle.psa_names.specs.Outlines.{Entry, Entries, ForkState, entry_of}
+use Rattle.psa_spaces.specs.Addresses.{place_of}
+use Rattle.psa_names.specs.Outlines.{Entries, ForkState, entry_of}
 use Rattle.psa_names.specs.PlacedFaults.{PlacedFault, earliest}
 use Rattle.psa_lookup.specs.declared.states.State.{State}
-use Rattle.psa_lookup.specs.Keys.{first_with, number_of, family_kept, whole_wanted, inside_wanted, whole_address, inside_address}
-use Rattle.psa_lookup.specs.Numbers.{IsNumbered}
+use Rattle.psa_lookup.specs.Keys.{first_with, number_of}
 use Rattle.psa_lookup.specs.Repeats.{is_noted_by, repeats_before, definition_repeat, state_repeat, repeats_at, repeats_from}
 use Rattle.psa_lookup.specs.Sooner.{placed_fault, sooner_of}
 use Rattle.psa_lookup.specs.States.{first_spot, fork_states}

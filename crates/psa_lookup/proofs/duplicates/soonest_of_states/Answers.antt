@@ -1,4 +1,4 @@
-use Rattle.std.proofs.Common.{◌≡◌, ◌++◌, ◌∷◌, [], List, Option, flat_map, take, sym, ap, ◌∙◌}
+use Rattle.std.proofs.Common.{List, Option, flat_map, take, sym, ap, ◌∙◌}
 use Rattle.std.specs.Option.{option_map}
 use Rattle.psa_names.specs.Outlines.{ForkState}
 use Rattle.psa_names.specs.PlacedFaults.{PlacedFault, earliest}

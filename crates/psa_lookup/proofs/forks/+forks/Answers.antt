@@ -1,5 +1,5 @@
-use Rattle.std.proofs.Common.{◌≡◌, ◌++◌, ◌-◌, [], ℕ, List, refl, sym, ap, ◌∙◌, append-nil, arith}
-use Rattle.psa_names.specs.Outlines.{ForkState, branch_states}
+use Rattle.std.proofs.Common.{◌≡◌, ◌++◌, ◌-◌, [], List, refl, sym, ap, ◌∙◌, append-nil, arith}
+use Rattle.psa_names.specs.Outlines.{ForkState}
 use Rattle.psa_lookup.specs.States.{fork_states, path_states}
 use Rattle.psa_lookup.proofs.StateLemmas.{branch-zero, branch-fork, branch-sequence, branch-branch, on-ok, paths-one}
 use Rattle.psa_lookup.proofs.forks.+forks.Goals as goal

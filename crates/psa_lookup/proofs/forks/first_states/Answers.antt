@@ -1,10 +1,10 @@
-use Rattle.std.proofs.Common.{◌≡◌, ◌++◌, ◌∷◌, [], List, Option, None, map, sym, ap, ◌∙◌, take}
+use Rattle.std.proofs.Common.{List, Option, None, map, sym, ap, ◌∙◌, take}
 use Rattle.psa_model.specs.declared.draft.DraftDefinition.{DraftDefinition}
 use Rattle.psa_model.specs.Drafts.{Position}
 use Rattle.psa_names.specs.Outlines.{ForkState, entry_of}
 use Rattle.psa_lookup.specs.declared.states.State.{State}
 use Rattle.psa_lookup.specs.Repeats.{least_from, least_state, states_in}
-use Rattle.psa_lookup.specs.States.{fork_states, first_spot}
+use Rattle.psa_lookup.specs.States.{fork_states}
 use Rattle.psa_lookup.proofs.BoolLemmas.{one-more-taken}
 use Rattle.psa_lookup.proofs.StateLemmas.{least-append, states-one}
 use Rattle.psa_lookup.proofs.forks.first_states.Goals as goal

@@ -1,7 +1,5 @@
-use Rattle.std.proofs.Common.{◌≡◌, ◌++◌, ◌∷◌, [], List, if◌then◌else◌, sym, ap, ◌∙◌, take}
-use Rattle.std.specs.Option.{option_map}
+use Rattle.std.proofs.Common.{List, if◌then◌else◌, sym, ap, ◌∙◌, take}
 use Rattle.psa_model.specs.Drafts.{path_position}
-use Rattle.psa_names.specs.Outlines.{ForkState}
 use Rattle.psa_lookup.specs.declared.states.State.{State}
 use Rattle.psa_lookup.specs.Repeats.{same_state, lesser, least_from}
 use Rattle.psa_lookup.specs.States.{fork_state, fork_states, first_spot}

@@ -1,5 +1,4 @@
-use Rattle.std.proofs.Common.{◌≡◌, ◌≤◌, ◌<◌, ◌+◌, ◌++◌, ◌∷◌, [], ℕ, List, Option, Some, None, length, take, get_or, slice_get, map, sym, ap, ◌∙◌, subst, arith}
-use Rattle.std.proofs.lemmas.List.{length-take-le}
+use Rattle.std.proofs.Common.{◌≡◌, ◌<◌, ◌+◌, ◌++◌, ℕ, List, Some, None, length, take, get_or, slice_get, sym, ap, ◌∙◌, subst, arith}
 use Rattle.std.proofs.lemmas.Option.{slice_get-get_or, slice_get_within, get_or_from_slice_get}
 use Rattle.std.specs.List.{position_from}
 use Rattle.std.specs.Str.{bytes_eq}
@@ -7,13 +6,13 @@ use Rattle.psa_model.specs.PathNames.{Text}
 use Rattle.psa_model.specs.declared.draft.DraftDefinition.{DraftDefinition}
 use Rattle.psa_model.specs.declared.draft.DraftReference.{DraftReference}
 use Rattle.psa_spaces.specs.Addresses.{place_of}
-use Rattle.psa_spaces.specs.Paths.{Path, path_at, IsPath}
+use Rattle.psa_spaces.specs.Paths.{Path, path_at}
 use Rattle.psa_spaces.proofs.ContainerLemmas.{path-is}
 use Rattle.psa_names.specs.Meanings.{members_of}
 use Rattle.psa_lookup.specs.Grouping.{absent_names, first_grouped, grouped_address}
 use Rattle.psa_lookup.specs.Tables.{table_entries}
 use Rattle.psa_lookup.proofs.BoolLemmas.{one-more-taken, flat-one}
-use Rattle.psa_lookup.proofs.GroupingLemmas.{take-all, absent_of, absent-all, absent-few-all, members_in, members-front, count-more, places-more}
+use Rattle.psa_lookup.proofs.GroupingLemmas.{take-all, absent_of, absent-all, absent-few-all, members-front, count-more, places-more}
 use Rattle.psa_lookup.proofs.grouped.group_names.Goals as goal
 
 pub note_members-requires-clause-stands : goal.note_members-requires-clause-stands

@@ -1,4 +1,4 @@
-use Rattle.std.proofs.Common.{◌≡◌, ◌∷◌, [], ◌++◌, ℕ, Bool, List, not, sym, ap, ◌∙◌}
+use Rattle.std.proofs.Common.{◌≡◌, ℕ, Bool, List, ap, ◌∙◌}
 use Rattle.psa_spaces.specs.Addresses.{Address, place_of}
 use Rattle.psa_spaces.specs.declared.key.Family.{Family}
 use Rattle.psa_spaces.specs.declared.key.Key.{Key}

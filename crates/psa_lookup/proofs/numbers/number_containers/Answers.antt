@@ -1,4 +1,4 @@
-use Rattle.std.proofs.Common.{◌≡◌, ◌++◌, ◌∷◌, [], ℕ, List, take, sym, ap, ◌∙◌, subst}
+use Rattle.std.proofs.Common.{◌++◌, ◌∷◌, [], ℕ, List, take, sym, subst}
 use Rattle.psa_model.specs.declared.draft.DraftDefinition.{DraftDefinition}
 use Rattle.psa_spaces.specs.Paths.{Path, IsPath}
 use Rattle.psa_lookup.specs.Numbers.{IsNumbered}

@@ -1,4 +1,4 @@
-use Rattle.std.proofs.Common.{◌≡◌, ◌∷◌, ◌+◌, ◌-◌, List, ℕ, length, take, drop, sym, ap, ◌∙◌}
+use Rattle.std.proofs.Common.{◌∷◌, ◌+◌, List, ℕ, take, sym, ap, ◌∙◌}
 use Rattle.psa_model.specs.PathNames.{name_parts}
 use Rattle.psa_lookup.proofs.SearchLemmas.{first-part, one-part, take-rest}
 use Rattle.psa_lookup.proofs.paths.split_first.Goals as goal

@@ -1,14 +1,10 @@
-use Rattle.std.proofs.Common.{◌≡◌, ◌+◌, ◌++◌, ◌∷◌, [], List, Option, None, map, take, sym, ap, ◌∙◌, subst, append_assoc}
-use Rattle.std.specs.Option.{option_map, option_to_list}
-use Rattle.psa_names.specs.Meanings.{Meaning}
-use Rattle.psa_names.specs.Outlines.{Entry, Reference, entry_of}
-use Rattle.psa_names.specs.PlacedFaults.{PlacedFault}
+use Rattle.std.proofs.Common.{◌≡◌, ◌+◌, ◌++◌, ◌∷◌, [], List, take, sym, ap, ◌∙◌, subst}
+use Rattle.psa_names.specs.Outlines.{Reference, entry_of}
 use Rattle.psa_lookup.specs.declared.asked.Asked.{Asked}
 use Rattle.psa_lookup.specs.Asking.{asked_reference, asked_references}
 use Rattle.psa_lookup.specs.Senses.{IsPass, faults_among, meanings_among, names_entries}
-use Rattle.psa_lookup.specs.Sooner.{placed_fault}
 use Rattle.psa_lookup.proofs.BoolLemmas.{one-more-taken, map-one}
-use Rattle.psa_lookup.proofs.SenseLemmas.{pass-more, pass-reference, among-one}
+use Rattle.psa_lookup.proofs.SenseLemmas.{pass-reference, among-one}
 use Rattle.psa_lookup.proofs.references.follow.Goals as goal
 
 pub loop-one-preserved : goal.loop-one-preserved

@@ -1,4 +1,4 @@
-use Rattle.std.proofs.Common.{◌≡◌, ◌++◌, List, Option, take}
+use Rattle.std.proofs.Common.{◌++◌, List, Option, take}
 use Rattle.psa_names.specs.Meanings.{Meaning}
 use Rattle.psa_names.specs.Outlines.{entry_of}
 use Rattle.psa_names.specs.PlacedFaults.{PlacedFault}

@@ -1,4 +1,4 @@
-use Rattle.std.proofs.Common.{◌≡◌, ◌<◌, ◌+◌, ◌++◌, ◌∷◌, [], ℕ, List, Option, Some, length, map, flat_map, take, get_or, slice_get, sym, ap, ◌∙◌, subst, arith}
+use Rattle.std.proofs.Common.{◌≡◌, ◌+◌, ◌++◌, ◌∷◌, [], ℕ, List, Option, Some, map, flat_map, take, get_or, slice_get, sym, ap, ◌∙◌, subst, arith}
 use Rattle.std.proofs.lemmas.Option.{slice_get-get_or, get_or_from_slice_get}
 use Rattle.psa_model.specs.declared.draft.DraftDefinition.{DraftDefinition}
 use Rattle.psa_spaces.specs.Paths.{IsPath}
@@ -8,7 +8,7 @@ use Rattle.psa_names.specs.Outlines.{Entry, Reference, entry_of}
 use Rattle.psa_names.specs.PlacedFaults.{PlacedFault}
 use Rattle.psa_lookup.specs.declared.asked.Asked.{Asked}
 use Rattle.psa_lookup.specs.Asking.{asked_references}
-use Rattle.psa_lookup.specs.Senses.{IsPass, faults_among, meanings_among, names_entries, names_paths}
+use Rattle.psa_lookup.specs.Senses.{IsPass, faults_among, meanings_among, names_entries}
 use Rattle.psa_lookup.proofs.BoolLemmas.{one-more-taken, flat-one, map-one}
 use Rattle.psa_lookup.proofs.GroupingLemmas.{take-all}
 use Rattle.psa_lookup.proofs.references.follow_all.Goals as goal

@@ -1,4 +1,4 @@
-use Rattle.std.proofs.Common.{◌≡◌, List, map, flat_map, take}
+use Rattle.std.proofs.Common.{map, flat_map, take}
 use Rattle.psa_names.specs.Chains.{references_of}
 use Rattle.psa_names.specs.Outlines.{Entry, entry_of}
 use Rattle.psa_lookup.specs.Senses.{IsPass, faults_among, meanings_among, names_entries}

@@ -1,4 +1,4 @@
-use Rattle.std.proofs.Common.{◌≡◌, ◌<◌, sym, ap, ◌∙◌, arith}
+use Rattle.std.proofs.Common.{sym, ◌∙◌, arith}
 use Rattle.psa_spaces.specs.Paths.{path_at}
 use Rattle.psa_lookup.specs.Tables.{meant, table_entries}
 use Rattle.psa_lookup.proofs.SearchLemmas.{scope-here, scope-on, inside-scoped, around-contained}

@@ -1,6 +1,6 @@
-use Rattle.std.proofs.Common.{◌≡◌, ◌<◌, ◌++◌, ◌∷◌, [], List, length, sym, ap, ◌∙◌, subst, arith, append_assoc}
+use Rattle.std.proofs.Common.{◌≡◌, ◌++◌, ◌∷◌, [], sym, ap, ◌∙◌, append_assoc}
 use Rattle.std.proofs.lemmas.Option.{slice_get_within}
-use Rattle.psa_model.specs.PathNames.{Text, name_parts}
+use Rattle.psa_model.specs.PathNames.{name_parts}
 use Rattle.psa_spaces.specs.Paths.{Path, path_at}
 use Rattle.psa_spaces.proofs.ContainerLemmas.{path-is}
 use Rattle.psa_names.specs.Meanings.{by_path}

@@ -1,4 +1,4 @@
-use Rattle.std.proofs.Common.{◌≡◌, ◌∷◌, [], List, Option, true, map, refl, sym, ap, ◌∙◌}
+use Rattle.std.proofs.Common.{◌≡◌, ◌∷◌, [], List, Option, map, refl, sym, ap, ◌∙◌}
 use Rattle.psa_model.specs.Drafts.{Position, position_of, are_ascending}
 use Rattle.psa_model.specs.declared.draft.DraftDefinition.{DraftDefinition}
 use Rattle.psa_names.specs.Outlines.{Entry, Entries, ForkState, entry_of}

@@ -1,12 +1,11 @@
-use Rattle.std.proofs.Common.{◌≡◌, ◌==◌, ◌&&◌, ℕ, Bool, List, Some, cond, if◌then◌else◌, refl, sym, ap, ◌∙◌}
+use Rattle.std.proofs.Common.{◌==◌, ◌&&◌, ℕ, List, Some, cond, if◌then◌else◌, refl, ap, ◌∙◌}
 use Rattle.std.specs.Map.{lookup}
-use Rattle.std.specs.Option.{option_map}
 use Rattle.std.specs.Str.{bytes_eq}
 use Rattle.psa_model.specs.Drafts.{path_position}
 use Rattle.psa_lookup.specs.declared.states.StateKey.{StateKey}
 use Rattle.psa_lookup.specs.declared.states.Spot.{Spot}
 use Rattle.psa_lookup.specs.Repeats.{lesser, same_state}
-use Rattle.psa_lookup.specs.States.{first_spot, fork_state, spot_position, is_key_of}
+use Rattle.psa_lookup.specs.States.{first_spot, fork_state, is_key_of}
 use Rattle.psa_lookup.proofs.StateLemmas.{noted-state, looked}
 use Rattle.psa_lookup.proofs.states.FirstStates.note.Goals as goal
 
