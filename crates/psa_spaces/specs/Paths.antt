@@ -1,5 +1,5 @@
 -- The paths of containers, by their numbers. (This project's own.)
-use Rattle.std.specs.Prelude.{◌≡◌, ◌<◌, ◌≤◌, ◌^◌, ◌==◌, ◌&&◌, ℕ, suc, Bool, List, [], ◌∷◌, ◌++◌, Some, length, get_or, slice_get}
+use Rattle.std.specs.Prelude.{◌≡◌, ◌<◌, ◌≤◌, ◌^◌, ◌==◌, ◌&&◌, ℕ, Bool, List, [], ◌∷◌, ◌++◌, Some, length, get_or, slice_get}
 use Rattle.std.specs.Str.{bytes_eq}
 use Rattle.psa_spaces.specs.declared.containers.Step.{Step}
 

@@ -1,4 +1,4 @@
-use Rattle.std.proofs.Common.{◌≡◌, ◌<◌, ◌-◌, ℕ, suc, [], List, length, Some, None, sym, ap, ◌∙◌, subst, arith}
+use Rattle.std.proofs.Common.{◌≡◌, ◌<◌, ◌-◌, [], List, length, sym, ap, ◌∙◌, subst, arith}
 use Rattle.psa_spaces.specs.Paths.{Path, path_at, IsAround, paths_of}
 use Rattle.psa_spaces.proofs.ContainerLemmas.{is-around, no-step, path-is, root-path}
 use Rattle.psa_spaces.proofs.containers.Containers.around.Goals as goal

@@ -1,7 +1,7 @@
-use Rattle.std.proofs.Common.{◌≡◌, ◌<◌, ◌+◌, ◌++◌, ◌∷◌, [], ℕ, List, length, slice_get, sym, ap, ◌∙◌, subst, arith}
+use Rattle.std.proofs.Common.{◌≡◌, ◌<◌, ◌+◌, ◌++◌, ◌∷◌, [], ℕ, List, length, sym, subst, arith}
 use Rattle.std.specs.List.{list_any}
 use Rattle.psa_spaces.specs.declared.containers.Step.{Step}
-use Rattle.psa_spaces.specs.Paths.{Path, path_at, IsPath, paths_of, same_step, AreSteps}
+use Rattle.psa_spaces.specs.Paths.{Path, path_at, IsPath, paths_of, same_step}
 use Rattle.psa_spaces.proofs.ContainerLemmas.{are-containers, steps-entered, entered-kept, entered-path}
 use Rattle.psa_spaces.proofs.containers.Containers.enter.Goals as goal
 

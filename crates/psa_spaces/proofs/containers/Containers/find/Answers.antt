@@ -1,6 +1,6 @@
-use Rattle.std.proofs.Common.{◌≡◌, ◌<◌, ◌+◌, ◌++◌, ◌∷◌, [], ℕ, List, length, sym, ap, ◌∙◌, subst, arith}
+use Rattle.std.proofs.Common.{◌<◌, ◌+◌, ◌++◌, ◌∷◌, [], List, length, sym, subst}
 use Rattle.psa_spaces.specs.declared.containers.Step.{Step}
-use Rattle.psa_spaces.specs.Paths.{Path, path_at, IsPath, paths_of}
+use Rattle.psa_spaces.specs.Paths.{Path, path_at, IsPath}
 use Rattle.psa_spaces.proofs.ListLemmas.{none-holds}
 use Rattle.psa_spaces.proofs.ContainerLemmas.{found-path, absent-path}
 use Rattle.psa_spaces.proofs.containers.Containers.find.Goals as goal

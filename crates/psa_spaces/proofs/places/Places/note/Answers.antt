@@ -1,4 +1,4 @@
-use Rattle.std.proofs.Common.{◌≡◌, cond, Some, None, sym, ap, ◌∙◌}
+use Rattle.std.proofs.Common.{cond, Some, ap, ◌∙◌}
 use Rattle.psa_spaces.specs.declared.key.Key.{Key}
 use Rattle.psa_spaces.specs.Addresses.{address_of, same_address, place_of}
 use Rattle.psa_spaces.proofs.PlaceLemmas.{after-old, after-new}
