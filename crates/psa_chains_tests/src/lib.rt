@@ -1,0 +1,5 @@
+//! Tests of the public calls of psa_chains.
+#![tactic(auto)]
+
+#[cfg(test)]
+mod chains;
