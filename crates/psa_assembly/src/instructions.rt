@@ -6,10 +6,10 @@ ghost use Rattle.psa_names.specs.Collected.{collected_by, resolved_instruction};
 ghost use Rattle.psa_assembly.specs.Collecting.{Collects, formula_number, listed};
 
 use crate::collected::Collected;
+use crate::conditions::resolve_test;
 use crate::cursor::Cursor;
 use crate::formulas::resolve_formula;
 use crate::numbers::{Numbers, next_id};
-use crate::tests::resolve_test;
 use psa_model::{
     DefinitionKind, DraftFormula, DraftInstruction, FormulaId, HouseId, Instruction, RuleId,
 };

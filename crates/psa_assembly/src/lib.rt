@@ -3,6 +3,7 @@
 
 mod branches;
 mod collected;
+mod conditions;
 mod context;
 mod cursor;
 mod definitions;
@@ -13,6 +14,5 @@ mod instructions;
 mod names;
 mod numbering;
 mod numbers;
-mod tests;
 mod trees;
 mod walks;
