@@ -1,5 +1,5 @@
 -- One step of the recursion: the results on the sides, one after the other, and then the node.
-use Rattle.std.proofs.Common.{◌≡◌, ℕ, ◌+◌, ◌*◌, ◌^◌, ◌<◌, ◌≤◌, min, Bool, true, Result, Ok, sym, ap₂, subst₂, ◌∙◌, arith}
+use Rattle.std.proofs.Common.{◌≡◌, ℕ, ◌+◌, ◌*◌, ◌<◌, ◌≤◌, min, Bool, true, Result, Ok, sym, ap₂, subst₂, ◌∙◌, arith}
 use Rattle.psa_nodes.specs.declared.node.Kind.{Kind}
 use Rattle.psa_nodes.specs.declared.node.Kind.TheVariants.{Bdd}
 use Rattle.psa_nodes.specs.declared.node.NodeId.{NodeId}

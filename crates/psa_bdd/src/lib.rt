@@ -1,9 +1,12 @@
 //! Binary decision diagrams over the shared node table: conjunction and disjunction (Bryant's apply, with
-//! remembered results).
+//! remembered results), and the diagram of a graph.
 #![tactic(auto)]
 
+mod building;
 mod combine;
 mod connective;
+mod marking;
 mod sides;
 
+pub use building::build;
 pub use combine::{and, or};
