@@ -13,7 +13,7 @@ use std::alloc::Global;
 
 /// A test with the places of its initiating events; its functional events stay names. It calls itself
 /// as deep as the test is.
-#[cycle(test)]
+#[cycle(condition)]
 pub fn resolve_test(
     alloc: Global,
     numbers: &Numbers,
@@ -52,7 +52,7 @@ pub fn resolve_test(
 }
 
 /// Tests in order.
-#[cycle(test)]
+#[cycle(condition)]
 fn resolve_tests(
     alloc: Global,
     numbers: &Numbers,

@@ -112,7 +112,7 @@ fn push_expressions<'a>(
 }
 
 /// Adds the references in a test.
-#[cycle(test)]
+#[cycle(condition)]
 fn push_test<'a>(asked: &mut Vec<Asked<'a>>, test: &'a DraftTest) -> Result<(), OutOfMemory>
     ensures { OnOk result (asked_references asked.new.items
         ≡ asked_references asked.old.items ++ references_in (test_outline test.now)) }
@@ -139,7 +139,7 @@ fn push_test<'a>(asked: &mut Vec<Asked<'a>>, test: &'a DraftTest) -> Result<(), 
 }
 
 /// Adds the references in some tests.
-#[cycle(test)]
+#[cycle(condition)]
 fn push_tests<'a>(asked: &mut Vec<Asked<'a>>, tests: &'a [DraftTest]) -> Result<(), OutOfMemory>
     ensures { OnOk result (asked_references asked.new.items ≡ asked_references asked.old.items
         ++ flat_map (λ one. references_in (test_outline one)) tests.now) }

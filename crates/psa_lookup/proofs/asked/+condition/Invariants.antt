@@ -2,7 +2,7 @@ use Rattle.std.proofs.Common.{◌≡◌, ◌++◌, flat_map, take}
 use Rattle.psa_names.specs.Chains.{references_in}
 use Rattle.psa_names.specs.Outlines.{test_outline}
 use Rattle.psa_lookup.specs.Asking.{asked_references}
-use Rattle.psa_lookup.proofs.asked.+test.Given as goal
+use Rattle.psa_lookup.proofs.asked.+condition.Given as goal
 
 abbrev pub invariant-push_tests-loop-test : goal.invariant-push_tests-loop-test
 invariant-push_tests-loop-test l =

@@ -4,7 +4,7 @@ use Rattle.psa_names.specs.Outlines.{test_outline}
 use Rattle.psa_names.specs.Chains.{references_in}
 use Rattle.psa_names.specs.Resolved.{resolved_test}
 use Rattle.psa_assembly.specs.Reading.{Reads}
-use Rattle.psa_assembly.proofs.conditions.+test.Given as goal
+use Rattle.psa_assembly.proofs.conditions.+condition.Given as goal
 
 abbrev pub invariant-resolve_tests-loop-test : goal.invariant-resolve_tests-loop-test
 invariant-resolve_tests-loop-test l =

@@ -4,7 +4,7 @@ use Rattle.psa_names.specs.Chains.{references_in}
 use Rattle.psa_names.specs.Resolved.{resolved_test}
 use Rattle.psa_assembly.proofs.ReadingInOrder.{reads-none, reads-more, reads-all}
 use Rattle.psa_assembly.proofs.ReadForms.{read-initiating, read-functional, read-all, read-any, read-not}
-use Rattle.psa_assembly.proofs.conditions.+test.Goals as goal
+use Rattle.psa_assembly.proofs.conditions.+condition.Goals as goal
 
 pub resolve_tests-loop-test-init : goal.resolve_tests-loop-test-init
 resolve_tests-loop-test-init t c = reads-none c.args.numbers.now c.args.cursor.now _ _ (λ entries from. c.new-made.ensures)

@@ -4,7 +4,7 @@ use Rattle.psa_names.specs.Outlines.{Reference, test_outline}
 use Rattle.psa_lookup.specs.Asking.{asked_references}
 use Rattle.psa_lookup.proofs.StateLemmas.{on-ok}
 use Rattle.psa_lookup.proofs.AskedLemmas.{in-all-tests, in-any-tests, in-not-tests, more-added}
-use Rattle.psa_lookup.proofs.asked.+test.Goals as goal
+use Rattle.psa_lookup.proofs.asked.+condition.Goals as goal
 
 pub push_test-returns-in-All : goal.push_test-returns-in-All
 push_test-returns-in-All t c =
