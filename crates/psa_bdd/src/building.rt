@@ -99,8 +99,8 @@ fn build_needed<L: Ledger>(
 
 /// The decision diagram of a graph's truth (Bryant). Only the diagrams of the nodes that the root needs are made,
 /// children first. Each new node reads as a cofactor of the truth of a node of the graph.
-/// Full only where the table has a limit and as many nodes. The recursion is at most as deep as the graph is wide;
-/// the table stays bounded (`call.progress.bounded`).
+/// Full only where the table has a limit and as many nodes. The recursion is that of `and` and `or`, at most
+/// `MAX_RANKS` deep; the table stays bounded (`call.progress.bounded`).
 /// Each result that is remembered on the way costs two turns, and nothing else does.
 pub fn build<L: Ledger>(
     alloc: Global,
