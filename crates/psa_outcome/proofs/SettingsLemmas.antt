@@ -26,9 +26,14 @@ use Rattle.psa_model.specs.Quantities.{has_quantities}
 use Rattle.psa_model.specs.Report.{Analysis}
 
 -- a later step that is reached gives the answer
-reached : {A : Type 0} (found : Option ModelFault) (later : Unit {0} → Result A ModelFault) (x : A) → unless found later ≡ Ok x → later tt ≡ Ok x
+pub reached : {A : Type 0} (found : Option ModelFault) (later : Unit {0} → Result A ModelFault) (x : A) → unless found later ≡ Ok x → later tt ≡ Ok x
 reached (Some f) later x p = absurd (cc)
 reached None later x p = p
+
+-- and no fault was found before it
+pub unfaulted : {A : Type 0} (found : Option ModelFault) (later : Unit {0} → Result A ModelFault) (x : A) → unless found later ≡ Ok x → found ≡ None
+unfaulted (Some f) later x p = absurd (cc)
+unfaulted None later x p = refl
 
 -- what an analysis has of its settings and its events
 pub record IsOf (settings : Settings) (expanded : Expanded) (has : Bool) (analysis : Analysis) : Type 0 where
@@ -49,7 +54,8 @@ of-quantities settings expanded false analysis p =
     let e : record { settings = settings; expanded = expanded; values = None } ≡ analysis = cc in
     subst (IsOf settings expanded false) e (record { settings_are = refl; events_are = refl; has_values = refl; values_are = tt })
 
-of-model : (settings : Settings) (model : Model) (analysis : Analysis) → analysis_of_model settings model ≡ Ok analysis → IsOf settings (expanded_of settings.ccf model) (has_quantities settings) analysis
+-- an analysis of a model has its settings, the events that they ask for, and values where they do
+pub of-model : (settings : Settings) (model : Model) (analysis : Analysis) → analysis_of_model settings model ≡ Ok analysis → IsOf settings (expanded_of settings.ccf model) (has_quantities settings) analysis
 of-model settings model analysis p =
     let ranked : analysis_of_expanded settings (expanded_of settings.ccf model) ≡ Ok analysis = reached (walk_fault model) (λ u. analysis_of_expanded settings (expanded_of settings.ccf model)) analysis p in
     of-quantities settings (expanded_of settings.ccf model) (has_quantities settings) analysis

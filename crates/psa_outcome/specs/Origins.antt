@@ -53,6 +53,11 @@ pub record IsCofactorOfPart (expanded : Expanded) (target : Target) (var : ℕ) 
   pub is_part : IsPart expanded target part
   pub cofactors : IsCofactorConjunction part var g
 
+-- The analysis whose products come by way of the decision diagram: as those of every run do, whichever algorithm its
+-- words ask for.
+abbrev pub by_diagram : Analysis → Analysis
+by_diagram analysis = record analysis { settings = record analysis.settings { algorithm = Bdd } }
+
 -- a node of a kind, with a variable and a reading, has its origin in a target
 abbrev pub Origin : Analysis → Target → Kind → ℕ → Reading → Type 0
 Origin analysis target node.Bdd var r = IsCofactorOfPart analysis.expanded target var r.as_truth

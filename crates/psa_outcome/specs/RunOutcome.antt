@@ -15,7 +15,7 @@ use Rattle.psa_outcome.specs.declared.status.Status.{Status}
 use Rattle.psa_outcome.specs.declared.status.Status.TheVariants.{Done, BadModel, BadWords, ReadFault, WriteFault, NodeLimit, OutOfMemory}
 use Rattle.psa_outcome.specs.Causes.{names_of, Analysed, IsBadModel, IsUnread}
 use Rattle.psa_outcome.specs.Inputs.{IsFirstFault, IsAnalysis}
-use Rattle.psa_outcome.specs.Origins.{Origin, AllFrom, AtMost}
+use Rattle.psa_outcome.specs.Origins.{Origin, AllFrom, AtMost, by_diagram}
 use Rattle.psa_outcome.specs.Runs.{Run, ReadRose, WriteRose, NoFaultRose, all_targets, Reported, ReportedPart, ReportedFirst, IsOwnTable}
 use Rattle.psa_model.specs.Report.{Analysis}
 
@@ -51,8 +51,8 @@ out_of_memory_line = codes "scram: out of memory\n"
 
 -- out grew by the report, and with a target, where more is asked than to validate, the table is the run's own
 pub record IsFinished (run : Run) (analysis : Analysis) : Type 0 where
-  pub reported : Reported run analysis
-  pub own_table : analysis.settings.validate ≡ false → (all_targets analysis ≡ [] → ⊥) → IsOwnTable analysis run.table
+  pub reported : Reported analysis run.before run.after
+  pub own_table : analysis.settings.validate ≡ false → (all_targets analysis ≡ [] → ⊥) → IsOwnTable (by_diagram analysis) run.table
 
 pub record DoneRow (settings : Settings) (run : Run) (line : List ℕ) : Type 0 where
   pub silent : line ≡ []
@@ -77,7 +77,7 @@ pub record ReadFaultRow (settings : Settings) (run : Run) (line : List ℕ) : Ty
 pub record WriteFaultRow (settings : Settings) (run : Run) (line : List ℕ) : Type 0 where
   pub rose : WriteRose run
   pub writes : settings.validate ≡ false
-  pub reported : Analysed settings run.told (ReportedPart run)
+  pub reported : Analysed settings run.told (λ analysis. ReportedPart analysis run.before run.after)
   pub spelled : line ≡ unwritten_line
 
 -- as many nodes stand as the option allows, and a triple was refused
@@ -86,33 +86,33 @@ pub record IsTableFull (settings : Settings) (table : Table) : Type 0 where
   pub triple : Node
   pub refused : table.refused ≡ Some triple
 
--- The run stopped at the target with this number, from 1: the nodes have their origin in the targets up to it, the
+-- A run stopped at the target with this number, from 1: the nodes have their origin in the targets up to it, the
 -- refused triple in the target itself, and out grew by the head and the sections before it.
-pub record IsStopped (run : Run) (number : ℕ) (triple : Node) (analysis : Analysis) : Type 0 where
-  pub before : List Target
+pub record IsStopped (analysis : Analysis) (number : ℕ) (table : Table) (triple : Node) (before after : Option (List ℕ)) : Type 0 where
+  pub earlier : List Target
   pub target : Target
   pub behind : List Target
-  pub targets : all_targets analysis ≡ before ++ target ∷ behind
-  pub place : suc (length before) ≡ number
-  pub nodes : AllFrom analysis (before ++ target ∷ []) run.table
-  pub from_target : Origin analysis target triple.kind triple.var (node_reading run.table.nodes triple)
-  pub reported : ReportedFirst run analysis (length before)
+  pub targets : all_targets analysis ≡ earlier ++ target ∷ behind
+  pub place : suc (length earlier) ≡ number
+  pub nodes : AllFrom (by_diagram analysis) (earlier ++ target ∷ []) table
+  pub from_target : Origin (by_diagram analysis) target triple.kind triple.var (node_reading table.nodes triple)
+  pub reported : ReportedFirst analysis (length earlier) before after
 
 pub record NodeLimitRow (settings : Settings) (run : Run) (number : ℕ) (line : List ℕ) : Type 0 where
   pub from_one : 0 < number
   pub writes : settings.validate ≡ false
   pub full : IsTableFull settings run.table
-  pub stopped : Analysed settings run.told (IsStopped run number full.triple)
+  pub stopped : Analysed settings run.told (λ analysis. IsStopped analysis number run.table full.triple run.before run.after)
   pub spelled : line ≡ node_limit_line number
 
 -- out grew by the head and the whole sections of the targets before some target
-pub record IsBetweenSections (run : Run) (analysis : Analysis) : Type 0 where
+pub record IsBetweenSections (analysis : Analysis) (before after : Option (List ℕ)) : Type 0 where
   pub count : ℕ
   pub before_one : count < length (all_targets analysis)
-  pub reported : ReportedFirst run analysis count
+  pub reported : ReportedFirst analysis count before after
 
 pub record OutOfMemoryRow (settings : Settings) (run : Run) (line : List ℕ) : Type 0 where
-  pub reported : (run.after ≡ run.before) ⊎ Analysed settings run.told (IsBetweenSections run)
+  pub reported : (run.after ≡ run.before) ⊎ Analysed settings run.told (λ analysis. IsBetweenSections analysis run.before run.after)
   pub spelled : line ≡ out_of_memory_line
 
 -- Where the words give these settings: each status with its row; the words are then not refused.
@@ -150,7 +150,7 @@ writes_nothing OutOfMemory = false
 -- no diagram is made where the model is only checked; else no more readings have an origin than the limit allows
 abbrev pub IsWithinLimit : Settings → Analysis → Type 0
 IsWithinLimit settings analysis =
-    (settings.validate ≡ true) ⊎ IfSome settings.node_limit (λ limit. AtMost limit analysis (all_targets analysis))
+    (settings.validate ≡ true) ⊎ IfSome settings.node_limit (λ limit. AtMost limit (by_diagram analysis) (all_targets analysis))
 
 -- the files are told, and have a first fault
 abbrev pub HasFault : Settings → Run → Type 0

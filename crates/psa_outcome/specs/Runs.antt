@@ -61,30 +61,30 @@ abbrev pub all_targets : Analysis → List Target
 all_targets analysis = targets_of analysis.expanded.model
 
 -- out grew by the report, whose intervals hold the exact quantities
-pub record Reported (run : Run) (analysis : Analysis) : Type 0 where
+pub record Reported (analysis : Analysis) (before after : Option (List ℕ)) : Type 0 where
   pub text : List ℕ
   pub is_report : IsReport analysis (all_targets analysis) text
   pub bracketed : IsBracketed analysis
-  pub appended : Appends run.before run.after text
+  pub appended : Appends before after text
 
 -- out grew by a prefix of the head and the sections of some first targets
-pub record ReportedPart (run : Run) (analysis : Analysis) : Type 0 where
+pub record ReportedPart (analysis : Analysis) (before after : Option (List ℕ)) : Type 0 where
   pub shown : List Target
   pub more : List Target
   pub are_targets : all_targets analysis ≡ shown ++ more
   pub text : List ℕ
   pub is_report : IsReport analysis shown text
-  pub appended : AppendsPrefix run.before run.after text
+  pub appended : AppendsPrefix before after text
 
 -- out grew by the head and the whole sections of so many first targets
-pub record ReportedFirst (run : Run) (analysis : Analysis) (count : ℕ) : Type 0 where
+pub record ReportedFirst (analysis : Analysis) (count : ℕ) (before after : Option (List ℕ)) : Type 0 where
   pub shown : List Target
   pub more : List Target
   pub are_targets : all_targets analysis ≡ shown ++ more
   pub number : length shown ≡ count
   pub text : List ℕ
   pub is_report : IsReport analysis shown text
-  pub appended : Appends run.before run.after text
+  pub appended : Appends before after text
 
 -- ---- the run's own table
 
