@@ -1,0 +1,5 @@
+//! The sections of a report: the products of each target in the run's node table, and the section's text.
+#![tactic(auto)]
+
+mod products;
+mod section;
