@@ -21,8 +21,8 @@ use Rattle.psa_names.specs.GroupRules.{same_meaning}
 use Rattle.psa_model.specs.Drafts.{has_body}
 use Rattle.psa_names.specs.Ids.{kind_number, is_kind, basics_at, all_basics, basic_id}
 use Rattle.psa_names.specs.ModelOfDraft.{model_name, expression_in, basics_of, model_from}
-use Rattle.psa_checks.proofs.ListPlaces.{Has, has-none, has-flat, from-flat, has-map, from-map, from-kept, map-at, any-from}
-use Rattle.psa_checks.proofs.FirstPlaces.{position-of, position-at, from-enumerated, has-enumerated}
+use Rattle.psa_names.proofs.ListPlaces.{map-map, Has, has-none, has-flat, from-flat, has-map, from-map, from-kept, map-at, any-from}
+use Rattle.psa_names.proofs.FirstPlaces.{position-of, position-at, from-enumerated, has-enumerated}
 use Rattle.psa_checks.proofs.KindForms.{basic-kind, group-kind, body-group}
 use Rattle.psa_checks.proofs.Definitions.{IsEntry, AreEntries}
 
@@ -61,11 +61,6 @@ pub flat-same : {A B : Type 0} (f g : A → List B) → ((x : A) → f x ≡ g x
     → flat_map f xs ≡ flat_map g xs
 flat-same f g same [] = refl
 flat-same {A} {B} f g same (x ∷ xs) = ap₂ (λ (one rest : List B). one ++ rest) (same x) (flat-same f g same xs)
-
--- one function after another is one function
-pub map-map : {A B C : Type 0} (f : B → C) (g : A → B) (xs : List A) → map f (map g xs) ≡ map (λ x. f (g x)) xs
-map-map f g [] = refl
-map-map {A} {B} {C} f g (x ∷ xs) = ap (λ (rest : List C). f (g x) ∷ rest) (map-map f g xs)
 
 -- places do not change what is joined
 pub flat-numbered : {A B : Type 0} (f : A → List B) (k : ℕ) (xs : List A)

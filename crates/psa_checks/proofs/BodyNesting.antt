@@ -36,14 +36,14 @@ use Rattle.psa_model.specs.declared.draft.DraftTest.TheOpen.{DraftTest-F}
 use Rattle.psa_model.specs.declared.draft.DraftTest.TheFolds.{fold_out-DraftTest, map-DraftTest}
 use Rattle.psa_model.specs.Drafts.{Contents, formula_contents, formula_step, expression_contents, expression_step, test_contents, test_contents_step}
 use Rattle.psa_model.specs.Models.{greatest, formula_nesting, formula_nesting_step, expression_nesting, expression_nesting_step, test_nesting, test_nesting_step}
+use Rattle.psa_names.proofs.ListPlaces.{map-map}
 use Rattle.psa_names.specs.Outlines.{Entry, Entries, event, parameter, initiating_event}
 use Rattle.psa_names.specs.Meanings.{Meaning, definition, of_group, meaning_of}
 use Rattle.psa_names.specs.Ids.{is_kind, id_of, basic_id, referred_id}
 use Rattle.psa_names.specs.Resolved.{event_formula, resolved_formula, resolved_formula_layer, resolved_expression, resolved_expression_layer, resolved_test, resolved_test_layer}
 use Rattle.psa_model.specs.Formulas.{has_arity}
 use Rattle.psa_model.specs.Values.{has_operands}
-use Rattle.psa_checks.proofs.BasicEvents.{map-map}
-use Rattle.psa_checks.proofs.ElementNesting.{are_shallow, inside-shallow, no-nesting, greatest-below}
+use Rattle.psa_names.proofs.ElementNesting.{are_shallow, inside-shallow, no-nesting, greatest-below}
 
 -- each of some parts is nested within the levels
 pub each-below : {A : Type 0} (levels : ℕ) (contents : A → Contents) (nesting : A → ℕ)

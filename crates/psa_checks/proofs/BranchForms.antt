@@ -8,35 +8,13 @@ use Rattle.psa_model.specs.declared.draft.DraftBranch.{DraftBranch}
 use Rattle.psa_model.specs.declared.draft.DraftForkPath.{DraftForkPath}
 use Rattle.psa_model.specs.declared.draft.DraftBranchEnd.{DraftBranchEnd, out-DraftBranchEnd}
 use Rattle.psa_model.specs.declared.draft.DraftBranchEnd.TheOpen.{DraftBranchEnd-F}
-use Rattle.psa_model.specs.Drafts.{Contents, together, instruction_contents, path_contents, end_contents, branch_contents}
-use Rattle.psa_names.specs.Outlines.{instruction_outline, end_outline, branch_outlines}
+use Rattle.psa_model.specs.Drafts.{Contents, instruction_contents, path_contents, end_contents, branch_contents}
 use Rattle.psa_names.specs.Collected.{collected_by, end_collected, branch_collected}
-use Rattle.psa_checks.proofs.ListPlaces.{all-append}
+use Rattle.psa_names.proofs.ListPlaces.{all-append}
+use Rattle.psa_names.proofs.BranchLevels.{contents-suc, collected-suc}
 use Rattle.psa_checks.proofs.SoundElements.{together-numbers}
 
 -- ---- a level down
-
--- the outlines of a branch, a level down
-pub outlines-suc : (depth : ℕ) (b : DraftBranch)
-    → branch_outlines (suc depth) b ≡ map instruction_outline b.instructions ++ end_outline
-    (λ below. branch_outlines depth below) (out-DraftBranchEnd b.end) ∷ []
-unfolding branch_outlines
-outlines-suc depth b = refl
-
--- the contents of a branch, a level down
-pub contents-suc : (depth : ℕ) (b : DraftBranch)
-    → branch_contents (suc depth) b ≡ together
-    (map instruction_contents b.instructions ++ end_contents (λ below. branch_contents depth below)
-    (out-DraftBranchEnd b.end) ∷ [])
-unfolding branch_contents
-contents-suc depth b = refl
-
--- what a branch collects, a level down
-pub collected-suc : (depth : ℕ) (b : DraftBranch)
-    → branch_collected (suc depth) b ≡ flat_map collected_by b.instructions ++ end_collected
-    (λ below. branch_collected depth below) (out-DraftBranchEnd b.end)
-unfolding branch_collected
-collected-suc depth b = refl
 
 -- where there is no level, nothing is right
 pub no-depth : (b : DraftBranch) → (branch_contents zero b).has_numbers ≡ true → ⊥

@@ -20,12 +20,13 @@ use Rattle.psa_names.specs.Chains.{is_within}
 use Rattle.psa_names.specs.Resolved.{resolved_formula}
 use Rattle.psa_names.specs.Collected.{collected_by, collected_layer, end_collected, branch_collected}
 use Rattle.psa_names.specs.ModelOfDraft.{model_from}
-use Rattle.psa_checks.proofs.ListPlaces.{all-append, all-joined, all-more}
+use Rattle.psa_names.proofs.ListPlaces.{all-append, all-joined, all-more}
 use Rattle.psa_checks.proofs.Definitions.{AreEntries}
 use Rattle.psa_checks.proofs.SoundElements.{IsSound, all_stand, some-level, inside, sound-parts}
 use Rattle.psa_checks.proofs.FormulaLevels.{formula-within}
 use Rattle.psa_checks.proofs.CollectedPlaces.{collected-of, layer-sound, block-parts, if-parts}
-use Rattle.psa_checks.proofs.BranchForms.{outlines-suc, collected-suc, numbers-suc}
+use Rattle.psa_checks.proofs.BranchForms.{numbers-suc}
+use Rattle.psa_names.proofs.BranchLevels.{outlines-suc, collected-suc}
 use Rattle.psa_checks.proofs.CollectedNesting.{none-collected}
 
 -- a formula in a definition is within so many levels in the model

@@ -16,11 +16,10 @@ use Rattle.psa_model.specs.Models.{formula_nesting}
 use Rattle.psa_names.specs.Outlines.{Entry, Entries}
 use Rattle.psa_names.specs.Resolved.{resolved_formula}
 use Rattle.psa_names.specs.Collected.{collected_by, collected_layer, end_collected, branch_collected}
-use Rattle.psa_checks.proofs.ListPlaces.{all-append, all-joined, all-more}
-use Rattle.psa_checks.proofs.ElementNesting.{are_shallow, inside-shallow, together-shallow}
+use Rattle.psa_names.proofs.ListPlaces.{all-append, all-joined, all-more}
+use Rattle.psa_names.proofs.ElementNesting.{are_shallow, inside-shallow, together-shallow}
 use Rattle.psa_checks.proofs.BodyNesting.{formula-nested}
-use Rattle.psa_checks.proofs.BranchForms.{collected-suc}
-use Rattle.psa_checks.proofs.WalkNesting.{no-instruction, shallow-suc, path-shallow}
+use Rattle.psa_names.proofs.BranchLevels.{collected-suc, no-instruction, shallow-suc, path-shallow}
 
 -- ---- collected formulas
 
@@ -126,11 +125,6 @@ end-collected-nested levels depth entries from at (DraftBranchEnd-F.Branch name)
 pub none-collected : (test : DraftFormula → Bool) (b : DraftBranch) → list_all test (branch_collected zero b) ≡ true
 unfolding branch_collected
 none-collected test b = refl
-
--- where there is no branch, nothing is collected
-pub none-collected-empty : (b : DraftBranch) → branch_collected zero b ≡ []
-unfolding branch_collected
-none-collected-empty b = refl
 
 -- the formulas that a branch collects are nested within its levels
 pub branch-collected-nested : (depth levels : ℕ) (entries : Entries) (from : Entry) (b : DraftBranch)

@@ -16,7 +16,7 @@ use Rattle.psa_names.specs.Outlines.{instruction_layer as outline_layer}
 use Rattle.psa_names.specs.Resolved.{resolved_formula}
 use Rattle.psa_names.specs.Collected.{Collecting, collected_by, collected_layer, collected_in, collected_before, total_size, resolved_instruction, resolved_instruction_layer}
 use Rattle.psa_names.specs.ModelOfDraft.{model_from}
-use Rattle.psa_checks.proofs.ListPlaces.{get-left, get-right}
+use Rattle.psa_names.proofs.ListPlaces.{get-left, get-right}
 use Rattle.psa_checks.proofs.SoundElements.{IsSound, some-level, inside, sound-parts}
 
 -- these formulas of a definition stand in the model, from a place on

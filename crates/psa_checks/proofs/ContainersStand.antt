@@ -12,8 +12,8 @@ use Rattle.psa_model.specs.declared.draft.DraftDefinition.{DraftDefinition}
 use Rattle.psa_model.specs.Drafts.{same_texts, is_fault_tree, is_event_tree, is_component, names_container, names_event_tree, has_container, have_containers}
 use Rattle.psa_names.specs.Outlines.{Entry, entry_of}
 use Rattle.psa_names.specs.Ids.{kind_number, is_kind, all_of_kind, tree_id}
-use Rattle.psa_checks.proofs.ListPlaces.{Has, has-none, has-cases, has-left, append-cases, has-map, has-kept, any-from}
-use Rattle.psa_checks.proofs.FirstPlaces.{position-of, position-at, has-enumerated}
+use Rattle.psa_names.proofs.ListPlaces.{Has, has-none, has-cases, has-left, append-cases, has-map, has-kept, any-from}
+use Rattle.psa_names.proofs.FirstPlaces.{position-of, position-at, has-enumerated}
 use Rattle.psa_checks.proofs.BasicEvents.{text-exact, text-own}
 
 -- ---- containers

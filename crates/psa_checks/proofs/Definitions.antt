@@ -14,8 +14,8 @@ use Rattle.psa_names.specs.GroupRules.{is_allowed_group}
 use Rattle.psa_names.specs.Chains.{is_chained, is_within_all, references_of}
 use Rattle.psa_names.specs.NameFaults.{reference_fault}
 use Rattle.psa_names.specs.Ids.{is_kind, all_of_kind, id_of}
-use Rattle.psa_checks.proofs.ListPlaces.{Has, from-kept}
-use Rattle.psa_checks.proofs.FirstPlaces.{position-first, kept-place, from-enumerated}
+use Rattle.psa_names.proofs.ListPlaces.{Has, from-kept}
+use Rattle.psa_names.proofs.FirstPlaces.{position-first, kept-place, from-enumerated}
 
 -- ---- what is known of a definition
 

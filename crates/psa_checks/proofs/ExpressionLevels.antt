@@ -31,12 +31,12 @@ use Rattle.psa_names.specs.Resolved.{resolved_expression, resolved_expression_la
 use Rattle.psa_names.specs.Ids.{referred_id}
 use Rattle.psa_names.specs.ModelOfDraft.{model_from, model_name, expression_in}
 use Rattle.psa_model.specs.declared.model.Model.{Model}
-use Rattle.psa_checks.proofs.ListPlaces.{list_all-mapped, all-append}
+use Rattle.psa_names.proofs.ListPlaces.{list_all-mapped, all-append}
 use Rattle.psa_checks.proofs.KindForms.{parameter-body}
 use Rattle.psa_checks.proofs.Definitions.{AreEntries, stands}
 use Rattle.psa_checks.proofs.ReferencesStand.{parameter-meant, referred-at, leads-on}
 use Rattle.psa_checks.proofs.SoundElements.{IsSound, some-level, inside, sound-each, entry-sound, all_stand, together-numbers, stand-joined}
-use Rattle.psa_checks.proofs.ElementNesting.{are_shallow, inside-shallow, no-nesting}
+use Rattle.psa_names.proofs.ElementNesting.{are_shallow, inside-shallow, no-nesting}
 
 -- the layer of a parameter
 pub out-parameter : (id : ParameterId) → out-Expression (expression.Parameter id) ≡ Expression-F.Parameter id

@@ -13,9 +13,9 @@ use Rattle.psa_model.specs.declared.model.GroupModel.TheVariants.{Beta, Mgl, Alp
 use Rattle.psa_model.specs.Models.{levels_of}
 use Rattle.psa_names.specs.GroupRules.{level_in, has_level, has_levels}
 use Rattle.psa_names.specs.ModelOfDraft.{by_level}
-use Rattle.psa_checks.proofs.ListPlaces.{Has, has-none, has-first, has-later, has-cases, has-any, any-from, all-at}
+use Rattle.psa_names.proofs.ListPlaces.{Has, has-none, has-first, has-later, has-cases, has-any, any-from, all-at}
 use Rattle.psa_checks.proofs.BasicEvents.{map-flat, flat-same}
-use Rattle.psa_checks.proofs.Sums.{weigh, weigh-same, weigh-sum, one_if}
+use Rattle.psa_names.proofs.Sums.{weigh, weigh-same, weigh-sum, one_if}
 
 count-weigh : {A : Type 0} (p : A → Bool) (xs : List A) → count_by p xs ≡ weigh (λ x. one_if (p x)) xs
 count-weigh p [] = refl

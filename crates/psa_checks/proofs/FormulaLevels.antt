@@ -30,7 +30,7 @@ use Rattle.psa_names.specs.Chains.{is_chained, chained_place, passes_on, is_with
 use Rattle.psa_names.specs.NameFaults.{reference_fault}
 use Rattle.psa_names.specs.Ids.{kind_number, is_kind, id_of, basic_id}
 use Rattle.psa_checks.proofs.KindForms.{gate-body, is-event}
-use Rattle.psa_checks.proofs.ListPlaces.{list_all-mapped}
+use Rattle.psa_names.proofs.ListPlaces.{list_all-mapped}
 use Rattle.psa_checks.proofs.Definitions.{AreEntries, made-at}
 use Rattle.psa_checks.proofs.ReferencesStand.{IsEvent, event-at}
 use Rattle.psa_checks.proofs.SoundElements.{IsSound, some-level, inside, sound-each, entry-sound}

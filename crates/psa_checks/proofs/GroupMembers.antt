@@ -15,7 +15,7 @@ use Rattle.psa_names.specs.Meanings.{Meaning, definition, of_group, members_of, 
 use Rattle.psa_names.specs.GroupRules.{meanings_of_members, has_no_expression, is_basic_event, can_be_member}
 use Rattle.psa_names.specs.Ids.{basic_id}
 use Rattle.psa_names.specs.ModelOfDraft.{model_from, member_ids}
-use Rattle.psa_checks.proofs.ListPlaces.{Has, has-none, has-later, has-cases, from-map, all-at}
+use Rattle.psa_names.proofs.ListPlaces.{Has, has-none, has-later, has-cases, from-map, all-at}
 use Rattle.psa_checks.proofs.Definitions.{AreEntries}
 use Rattle.psa_checks.proofs.ReferencesStand.{IsEvent, event-at}
 use Rattle.psa_checks.proofs.BasicEvents.{own_basic, group_basic, all_pairs, IsOwn, IsOfGroup, pair-cases, own-pair, basic-pair-at, defined-pair}

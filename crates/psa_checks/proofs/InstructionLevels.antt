@@ -27,7 +27,7 @@ use Rattle.psa_names.specs.Resolved.{resolved_formula, resolved_test}
 use Rattle.psa_names.specs.Ids.{referred_id}
 use Rattle.psa_names.specs.Collected.{Collecting, collected_by, collected_layer, collected_in, collected_before, total_size, all_behind, resolved_instruction, resolved_instruction_layer}
 use Rattle.psa_names.specs.ModelOfDraft.{model_from, instructions_in, steps_in}
-use Rattle.psa_checks.proofs.ListPlaces.{all-append, all-joined}
+use Rattle.psa_names.proofs.ListPlaces.{all-append, all-joined}
 use Rattle.psa_checks.proofs.KindForms.{rule-body}
 use Rattle.psa_checks.proofs.Definitions.{AreEntries}
 use Rattle.psa_checks.proofs.ReferencesStand.{rule-meant, house-meant, referred-at, leads-on}

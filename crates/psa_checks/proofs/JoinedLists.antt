@@ -3,7 +3,7 @@ use Rattle.std.proofs.Common.{◌≡◌, inl, inr, ◌+◌, ℕ, suc, Bool, true
 use Rattle.std.proofs.lemmas.Bool.{cases_Bool}
 use Rattle.std.proofs.lemmas.List.Elements.{filter_map-append, filter-append}
 use Rattle.std.specs.List.{slice_get, list_any, filter, filter_map, flat_map, range_with_len}
-use Rattle.psa_checks.proofs.ListPlaces.{Has, has-first, has-later}
+use Rattle.psa_names.proofs.ListPlaces.{Has, has-first, has-later}
 
 -- ---- lists
 

@@ -5,8 +5,8 @@ use Rattle.psa_model.specs.declared.draft.DefinitionKind.{DefinitionKind}
 use Rattle.psa_model.specs.declared.draft.DefinitionKind.TheVariants as kind
 use Rattle.psa_names.specs.Outlines.{Entry, Entries}
 use Rattle.psa_names.specs.Ids.{kind_number, is_kind, all_of_kind}
-use Rattle.psa_checks.proofs.Sums.{weigh}
-use Rattle.psa_checks.proofs.Sums.{one_if, kept-length}
+use Rattle.psa_names.proofs.Sums.{weigh}
+use Rattle.psa_names.proofs.Sums.{one_if, kept-length}
 
 -- ---- definitions by kind
 

@@ -1,5 +1,3 @@
-pub mod ListPlaces
-pub mod FirstPlaces
 pub mod KindForms
 pub mod Definitions
 pub mod ReferencesStand
@@ -7,13 +5,11 @@ pub mod SoundElements
 pub mod BasicEvents
 pub mod FormulaLevels
 pub mod TestLevels
-pub mod ElementNesting
 pub mod ExpressionLevels
 pub mod CollectedPlaces
 pub mod InstructionLevels
 pub mod BranchForms
 pub mod WalkLevels
-pub mod ContentsOrder
 pub mod CollectedOrder
 pub mod BodyNesting
 pub mod WalkNesting
@@ -31,9 +27,8 @@ pub mod ValueOrder
 pub mod PromisedDefinitions
 pub mod PromisedGroups
 pub mod ModelPromise
-pub mod Sums
 pub mod KindCounts
 pub mod MemberCounts
-pub mod CollectedCounts
+pub mod FormulaCounts
 pub mod ModelSize
 pub mod ResolvedModels

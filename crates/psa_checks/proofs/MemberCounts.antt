@@ -24,16 +24,16 @@ use Rattle.psa_names.specs.Meanings.{Meaning, of_group, members_of, defined_by_g
 use Rattle.psa_names.specs.GroupRules.{meanings_of_members}
 use Rattle.psa_names.specs.Ids.{is_kind, all_of_kind, basic_id}
 use Rattle.psa_names.specs.ModelOfDraft.{model_from, basics_of, group_of}
-use Rattle.psa_checks.proofs.ListPlaces.{Has, has-first, has-later, has-map, has-kept}
+use Rattle.psa_names.proofs.ListPlaces.{Has, has-first, has-later, has-map, has-kept}
 use Rattle.psa_checks.proofs.KindForms.{group-body}
 use Rattle.psa_checks.proofs.Definitions.{AreEntries}
 use Rattle.psa_checks.proofs.BasicEvents.{IsOwn, IsOfGroup, group_basic, pair-cases, basic-pair-at, group-pair}
-use Rattle.psa_checks.proofs.Sums.{weigh, sum-weigh}
+use Rattle.psa_names.proofs.Sums.{weigh, sum-weigh}
 use Rattle.psa_checks.proofs.GroupMembers.{present, member_list}
 use Rattle.psa_checks.proofs.MembersDiffer.{all_members, group-at, groups-apart}
 use Rattle.psa_checks.proofs.ModelMembers.{absent, absent-meaning, defined-member, group-says, model-members}
 use Rattle.psa_checks.proofs.PromisedDefinitions.{its-body}
-use Rattle.psa_checks.proofs.Sums.{one_if, weigh-map, weigh-less, weigh-sum, length-flat, kept-weigh}
+use Rattle.psa_names.proofs.Sums.{one_if, weigh-map, weigh-less, weigh-sum, length-flat, kept-weigh}
 use Rattle.psa_checks.proofs.KindCounts.{of_number}
 
 -- ---- basic events

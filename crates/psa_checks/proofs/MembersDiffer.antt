@@ -12,8 +12,8 @@ use Rattle.psa_names.specs.Outlines.{Entry, Entries}
 use Rattle.psa_names.specs.Meanings.{Meaning}
 use Rattle.psa_names.specs.GroupRules.{same_meaning, meanings_of_members, has_repeat, have_one_in_common}
 use Rattle.psa_names.specs.Ids.{is_kind, all_of_kind, all_basics, basic_id}
-use Rattle.psa_checks.proofs.ListPlaces.{Has, has-first, has-later, append-cases, has-map, from-map, from-flat, from-kept, has-any, any-from}
-use Rattle.psa_checks.proofs.FirstPlaces.{enumerated-at}
+use Rattle.psa_names.proofs.ListPlaces.{Has, has-first, has-later, append-cases, has-map, from-map, from-flat, from-kept, has-any, any-from}
+use Rattle.psa_names.proofs.FirstPlaces.{enumerated-at}
 use Rattle.psa_checks.proofs.KindForms.{group-kind}
 use Rattle.psa_checks.proofs.Definitions.{AreEntries, from-made}
 use Rattle.psa_checks.proofs.BasicEvents.{all_pairs, pair-meanings, basic-at, same-own}

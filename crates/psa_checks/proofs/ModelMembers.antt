@@ -23,8 +23,8 @@ use Rattle.psa_names.specs.GroupRules.{same_meaning, meanings_of_members, has_re
 use Rattle.psa_names.specs.Ids.{all_of_kind, basic_id}
 use Rattle.psa_names.specs.Resolved.{resolved_expression}
 use Rattle.psa_names.specs.ModelOfDraft.{model_from, member_ids, factor_of, by_level, group_of, is_member}
-use Rattle.psa_checks.proofs.ListPlaces.{Has, has-first, has-later, has-map, from-map, has-kept, from-kept, has-any}
-use Rattle.psa_checks.proofs.BasicEvents.{map-flat, map-map, flat-same, same-own, text-own}
+use Rattle.psa_names.proofs.ListPlaces.{Has, has-first, has-later, has-map, from-map, has-kept, from-kept, has-any, map-map}
+use Rattle.psa_checks.proofs.BasicEvents.{map-flat, flat-same, same-own, text-own}
 use Rattle.psa_checks.proofs.GroupMembers.{present-has, member_list, member-ids}
 use Rattle.psa_checks.proofs.MembersDiffer.{AreDistinct, all_members}
 use Rattle.psa_checks.proofs.JoinedLists.{any-flat, flat-of-map}

@@ -20,7 +20,7 @@ use Rattle.psa_names.specs.Outlines.{Entry, Entries, entry_of, entries_of}
 use Rattle.psa_names.specs.Ids.{all_of_kind, tree_id}
 use Rattle.psa_names.specs.ModelOfDraft.{model_from, model_of, gate_of, group_of}
 use Rattle.psa_names.specs.NameFaults.{name_fault}
-use Rattle.psa_checks.proofs.ListPlaces.{map-at, All-from}
+use Rattle.psa_names.proofs.ListPlaces.{map-at, All-from}
 use Rattle.psa_checks.proofs.KindForms.{parameter-body, gate-kind, parameter-kind, group-kind, initiating-kind, tree-kind, functional-kind, sequence-kind, branch-kind, rule-kind}
 use Rattle.psa_checks.proofs.Definitions.{AreEntries, from-made}
 use Rattle.psa_checks.proofs.ExpressionLevels.{parameter_of, parameter-says, parameters-within}
@@ -30,7 +30,8 @@ use Rattle.psa_checks.proofs.WalkLevels.{tree_of, named_of, functional_of, seque
 use Rattle.psa_checks.proofs.CollectedOrder.{collected-stand}
 use Rattle.psa_checks.proofs.BodyNesting.{expression-nested}
 use Rattle.psa_checks.proofs.ContainersStand.{each-contained, fault-tree-stands, event-tree-stands}
-use Rattle.psa_checks.proofs.NoFault.{has-no-fault, are-entries, entries-ascend}
+use Rattle.psa_checks.proofs.NoFault.{has-no-fault, are-entries}
+use Rattle.psa_names.proofs.ContentsOrder.{entries-ascend}
 use Rattle.psa_checks.proofs.ValueOrder.{order-of}
 use Rattle.psa_checks.proofs.PromisedDefinitions.{kind-all, gate-parts, rule-parts, tree-parts, branch-parts, sequence-nested, sequence-link, initiating-link, its-body, its-levels, its-nesting, parts-shallow}
 use Rattle.psa_checks.proofs.PromisedGroups.{formula-parts, basics-parts, group-parts, members-differ}

@@ -1,24 +1,22 @@
 -- The model of a draft is within the limit of size: it has no more definitions, members and collected formulas.
-use Rattle.std.proofs.Common.{◌≡◌, ◌≤◌, ◌+◌, ◌-◌, ℕ, cond, None, map, length, arith}
-use Rattle.std.proofs.lemmas.List.{length-map}
+use Rattle.std.proofs.Common.{◌≡◌, ◌≤◌, ◌+◌, ◌-◌, ℕ, cond, None, length, arith}
 use Rattle.psa_model.specs.declared.draft.Draft.{Draft}
 use Rattle.psa_model.specs.declared.draft.DefinitionKind.TheVariants as kind
-use Rattle.psa_model.specs.declared.draft.DraftDefinition.{DraftDefinition}
 use Rattle.psa_model.specs.declared.model.Model.{Model}
-use Rattle.psa_model.specs.Drafts.{IsDraft, Contents, body_contents, member_count, draft_size}
+use Rattle.psa_model.specs.Drafts.{IsDraft, body_contents, member_count}
 use Rattle.psa_model.specs.Models.{defined_members, model_size, IsOfSize}
 use Rattle.psa_model.specs.Models.{members_of as model_members}
-use Rattle.psa_names.specs.Outlines.{Entry, entry_of, entries_of}
+use Rattle.psa_names.specs.Outlines.{Entry, entries_of}
 use Rattle.psa_names.specs.Meanings.{defined_by_group}
 use Rattle.psa_names.specs.Ids.{is_kind}
 use Rattle.psa_names.specs.NameFaults.{name_fault}
 use Rattle.psa_names.specs.ModelOfDraft.{model_of}
-use Rattle.psa_checks.proofs.Sums.{weigh, sum-weigh}
+use Rattle.psa_names.proofs.Sums.{weigh}
 use Rattle.psa_checks.proofs.NoFault.{has-no-fault, are-entries}
-use Rattle.psa_checks.proofs.Sums.{weigh-map}
 use Rattle.psa_checks.proofs.KindCounts.{of_number, kind-count, kinds-few}
 use Rattle.psa_checks.proofs.MemberCounts.{basics-few, defined-many, members-few}
-use Rattle.psa_checks.proofs.CollectedCounts.{together-formulas, formulas-few}
+use Rattle.psa_names.proofs.FewCollected.{draft-sized}
+use Rattle.psa_checks.proofs.FormulaCounts.{formulas-few}
 
 -- ---- the size
 
@@ -35,20 +33,6 @@ sized model total n0 n1 n2 n3 n4 n5 n6 n7 n8 n9 n10 n11 defined members formulas
     e11 m f all =
     let basics : length model.basics - defined_members model ≤ n2 = omega (arith, l2, d) in
     omega (arith, basics)
-
--- the size of a draft by its definitions
-draft-sized : (draft : Draft)
-    → draft_size draft ≡ length (entries_of draft) + weigh (λ (e : Entry). member_count e.body) (entries_of draft)
-    + weigh (λ (e : Entry). (body_contents e.body).formulas) (entries_of draft)
-draft-sized draft =
-    let definitions = length-map draft.definitions entry_of in
-    let members = sum-weigh (λ (d : DraftDefinition). member_count d.body) draft.definitions in
-    let entry_members = weigh-map (λ (e : Entry). member_count e.body) entry_of draft.definitions in
-    let formulas = together-formulas (map (λ (d : DraftDefinition). body_contents d.body) draft.definitions) in
-    let mapped = weigh-map (λ (c : Contents). c.formulas) (λ (d : DraftDefinition). body_contents d.body)
-    draft.definitions in
-    let entry_formulas = weigh-map (λ (e : Entry). (body_contents e.body).formulas) entry_of draft.definitions in
-    omega (arith, definitions, members, entry_members, formulas, mapped, entry_formulas)
 
 -- the model of a draft without a fault is within the limit of size
 pub of-size : (draft : Draft) → IsDraft draft → name_fault draft ≡ None → IsOfSize (model_of draft)

@@ -8,8 +8,7 @@ use Rattle.psa_model.specs.declared.draft.Draft.{Draft}
 use Rattle.psa_model.specs.declared.draft.DraftDefinition.{DraftDefinition}
 use Rattle.psa_model.specs.declared.model.TheConstants.{MAX_DEPTH}
 use Rattle.psa_model.specs.declared.fault.FaultKind.{FaultKind}
-use Rattle.psa_checks.proofs.BasicEvents.{map-map}
-use Rattle.psa_model.specs.Drafts.{reference_position, are_ascending, IsDraft, together, body_contents, has_body, position_of, stands_before}
+use Rattle.psa_model.specs.Drafts.{reference_position, IsDraft, together, body_contents, has_body, stands_before}
 use Rattle.psa_names.specs.Outlines.{Reference, Entry, Entries, entry_of, entries_of}
 use Rattle.psa_names.specs.PlacedFaults.{PlacedFault, earliest, earlier, fault_at}
 use Rattle.psa_names.specs.NameSpaces.{is_in_family, groups}
@@ -17,10 +16,9 @@ use Rattle.psa_names.specs.Chains.{references_of, is_chained, is_within_all}
 use Rattle.psa_names.specs.GroupRules.{is_allowed_group}
 use Rattle.psa_names.specs.NameFaults.{duplicates, bad_references, bad_groups, cycles, too_deep, fault_of_reference, reference_fault, or_next, first_fault}
 use Rattle.psa_names.specs.Meanings.{meaning_of}
-use Rattle.psa_checks.proofs.ListPlaces.{Has, has-none, has-later, has-cases, has-flat, has-kept, has-map, map-at, All-at, all-from}
-use Rattle.psa_checks.proofs.FirstPlaces.{has-enumerated}
+use Rattle.psa_names.proofs.ListPlaces.{Has, has-none, has-later, has-cases, has-flat, has-kept, has-map, map-at, All-at, all-from}
+use Rattle.psa_names.proofs.FirstPlaces.{has-enumerated}
 use Rattle.psa_checks.proofs.Definitions.{stands, IsEntry, AreEntries}
-use Rattle.psa_checks.proofs.ContentsOrder.{IsAscending, ascending-from}
 
 -- ---- no fault
 
@@ -171,9 +169,3 @@ are-entries draft is none place one there =
       within = within-all entries (entry_of d.0) none.deep (place, at);
       allowed = group-allowed entries place (entry_of d.0) none.group at;
     }) there
-
--- the definitions stand in order
-pub entries-ascend : (draft : Draft) → IsDraft draft → IsAscending (entries_of draft)
-entries-ascend draft is =
-    ascending-from (entries_of draft) (ap are_ascending
-    (map-map (λ (e : Entry). position_of e.definition) entry_of draft.definitions) ∙ is.ascending)

@@ -26,13 +26,13 @@ use Rattle.psa_names.specs.Ids.{is_kind, all_of_kind, referred_id}
 use Rattle.psa_names.specs.Resolved.{resolved_formula}
 use Rattle.psa_names.specs.Collected.{collected_by, collected_before, branch_collected, all_behind, resolved_instruction}
 use Rattle.psa_names.specs.ModelOfDraft.{model_from, formula_in, steps_in, instructions_in, branch_in, link_in, linked_id}
-use Rattle.psa_checks.proofs.ListPlaces.{Has, from-map, all-at, All-from, all-append}
+use Rattle.psa_names.proofs.ListPlaces.{Has, from-map, all-at, All-from, all-append}
 use Rattle.psa_checks.proofs.KindForms.{gate-body, start-body, tree-body, branch-body, sequence-body, rule-body}
 use Rattle.psa_checks.proofs.Definitions.{AreEntries, from-made}
 use Rattle.psa_checks.proofs.ReferencesStand.{tree-meant, referred-at}
 use Rattle.psa_checks.proofs.SoundElements.{IsSound, all_stand, entry-sound, entry-stand, outlines_by, together-numbers}
 use Rattle.psa_checks.proofs.FormulaLevels.{formula-within, formula_by}
-use Rattle.psa_checks.proofs.ElementNesting.{are_shallow, together-shallow}
+use Rattle.psa_names.proofs.ElementNesting.{are_shallow, together-shallow}
 use Rattle.psa_checks.proofs.CollectedPlaces.{CollectedStand}
 use Rattle.psa_checks.proofs.InstructionLevels.{instruction-within, steps-sound, steps-within}
 use Rattle.psa_checks.proofs.WalkLevels.{branch_by, tree_of, own-walk, tree-walk, walk-at}

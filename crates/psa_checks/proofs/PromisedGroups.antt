@@ -32,13 +32,13 @@ use Rattle.psa_names.specs.GroupRules.{has_levels}
 use Rattle.psa_names.specs.Resolved.{resolved_formula, resolved_expression}
 use Rattle.psa_names.specs.Collected.{collected_in, branch_collected, by_contents}
 use Rattle.psa_names.specs.ModelOfDraft.{model_from, member_ids, factor_of, group_of}
-use Rattle.psa_checks.proofs.ListPlaces.{Has, has-none, has-cases, from-map, from-flat, from-kept, all-at, All-from, all-append}
+use Rattle.psa_names.proofs.ListPlaces.{Has, has-none, has-cases, from-map, from-flat, from-kept, all-at, All-from, all-append}
 use Rattle.psa_checks.proofs.KindForms.{basic-body, group-body, body-steps, body-walk}
 use Rattle.psa_checks.proofs.Definitions.{AreEntries}
 use Rattle.psa_checks.proofs.SoundElements.{all_stand, entry-sound}
 use Rattle.psa_checks.proofs.ExpressionLevels.{expression_by, parameters-within, Shallow, value-within}
 use Rattle.psa_checks.proofs.WalkLevels.{tree-sound}
-use Rattle.psa_checks.proofs.CollectedOrder.{from-by}
+use Rattle.psa_names.proofs.ContentsSorted.{from-by}
 use Rattle.psa_checks.proofs.BodyNesting.{expression-nested}
 use Rattle.psa_checks.proofs.CollectedNesting.{branch-collected-nested}
 use Rattle.psa_checks.proofs.CollectedLevels.{resolves_within, branch-resolves}

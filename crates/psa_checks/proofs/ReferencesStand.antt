@@ -18,8 +18,8 @@ use Rattle.psa_names.specs.Meanings.{Meaning, definition, of_group, meaning_of, 
 use Rattle.psa_names.specs.Chains.{is_chained, followed, chained_place, passes_on}
 use Rattle.psa_names.specs.NameFaults.{reference_fault, has_kind}
 use Rattle.psa_names.specs.Ids.{kind_number, is_kind, all_of_kind, id_of_meaning, referred_id}
-use Rattle.psa_checks.proofs.ListPlaces.{Has, has-later, from-map}
-use Rattle.psa_checks.proofs.FirstPlaces.{position-at}
+use Rattle.psa_names.proofs.ListPlaces.{Has, has-later, from-map}
+use Rattle.psa_names.proofs.FirstPlaces.{position-at}
 use Rattle.psa_checks.proofs.KindForms.{is-parameter, is-event-tree, is-initiating, is-functional, is-sequence, is-branch, is-rule, is-house}
 use Rattle.psa_checks.proofs.Definitions.{stands, made-at}
 

@@ -11,7 +11,7 @@ use Rattle.psa_model.specs.Drafts.{Contents, together, body_contents, is_event_t
 use Rattle.psa_model.specs.Drafts.{element as element_contents}
 use Rattle.psa_names.specs.Outlines.{Reference, Outline, element, joined, plain, Entry, Entries, body_outlines}
 use Rattle.psa_names.specs.Chains.{own_reference, references_in, references_in_all, path_members, followed, all_pass, passes_on, is_within}
-use Rattle.psa_checks.proofs.ListPlaces.{all-append}
+use Rattle.psa_names.proofs.ListPlaces.{all-append}
 use Rattle.psa_checks.proofs.Definitions.{stands, IsEntry}
 
 -- each reference in an element stands

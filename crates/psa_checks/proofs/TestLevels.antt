@@ -23,7 +23,7 @@ use Rattle.psa_names.specs.Outlines.{test_layer as outline_layer}
 use Rattle.psa_names.specs.Resolved.{resolved_test, resolved_test_layer}
 use Rattle.psa_names.specs.Ids.{referred_id}
 use Rattle.psa_names.specs.ModelOfDraft.{model_from, linked_id}
-use Rattle.psa_checks.proofs.ListPlaces.{list_all-mapped}
+use Rattle.psa_names.proofs.ListPlaces.{list_all-mapped}
 use Rattle.psa_checks.proofs.Definitions.{AreEntries}
 use Rattle.psa_checks.proofs.ReferencesStand.{initiating-meant, referred-at}
 use Rattle.psa_checks.proofs.SoundElements.{IsSound, some-level, inside, sound-each}

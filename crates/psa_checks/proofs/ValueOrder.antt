@@ -15,8 +15,8 @@ use Rattle.psa_names.specs.Outlines.{Entry, Entries}
 use Rattle.psa_names.specs.Meanings.{Meaning, definition, of_group, members_of, defined_by_group}
 use Rattle.psa_names.specs.Ids.{kind_number, is_kind, all_of_kind, id_of, basics_at, all_basics, basic_id}
 use Rattle.psa_names.specs.ModelOfDraft.{model_from, group_of, is_member, valued_at}
-use Rattle.psa_checks.proofs.ListPlaces.{Has, has-none, has-first, has-later, has-map, from-map, from-flat, has-flat, has-kept, has-any}
-use Rattle.psa_checks.proofs.FirstPlaces.{from-enumerated, has-enumerated}
+use Rattle.psa_names.proofs.ListPlaces.{Has, has-none, has-first, has-later, has-map, from-map, from-flat, has-flat, has-kept, has-any}
+use Rattle.psa_names.proofs.FirstPlaces.{from-enumerated, has-enumerated}
 use Rattle.psa_checks.proofs.KindForms.{basic-kind, group-kind}
 use Rattle.psa_checks.proofs.Definitions.{AreEntries, made-at}
 use Rattle.psa_checks.proofs.BasicEvents.{map-flat, flat-same, pick, pick-cases, all_pairs, pair-meanings, pair-events, basic-at}

@@ -31,14 +31,15 @@ use Rattle.psa_names.specs.Chains.{is_within}
 use Rattle.psa_names.specs.Ids.{referred_id, tree_id}
 use Rattle.psa_names.specs.Collected.{collected_by, collected_in, collected_before, end_collected, branch_collected, all_behind, resolved_path, resolved_end, no_branch, resolved_branch}
 use Rattle.psa_names.specs.ModelOfDraft.{model_from, instructions_in, branch_in, link_in, linked_id}
-use Rattle.psa_checks.proofs.ListPlaces.{all-append}
+use Rattle.psa_names.proofs.ListPlaces.{all-append}
 use Rattle.psa_checks.proofs.KindForms.{tree-body, branch-body, sequence-body}
 use Rattle.psa_checks.proofs.Definitions.{AreEntries}
 use Rattle.psa_checks.proofs.ReferencesStand.{tree-meant, sequence-meant, branch-meant, functional-meant, referred-at, leads-on}
 use Rattle.psa_checks.proofs.SoundElements.{IsSound, all_stand, some-level, inside, sound-parts, entry-sound}
 use Rattle.psa_checks.proofs.CollectedPlaces.{StandFrom, CollectedStand, stand-left, stand-right, flat-own}
 use Rattle.psa_checks.proofs.InstructionLevels.{instruction-within, each-within, steps-sound, steps-within}
-use Rattle.psa_checks.proofs.BranchForms.{outlines-suc, collected-suc, no-depth, numbers-suc, path-numbers, collected-whole}
+use Rattle.psa_checks.proofs.BranchForms.{no-depth, numbers-suc, path-numbers, collected-whole}
+use Rattle.psa_names.proofs.BranchLevels.{outlines-suc, collected-suc}
 
 -- ---- walks
 

@@ -1,6 +1,6 @@
 -- Instructions and branches that are nested within so many levels in a draft are nested within as many in the model.
 use Rattle.std.proofs.Common.{◌≡◌, ◌≤◌, ◌<◌, ◌+◌, ◌==◌, ℕ, zero, suc, Bool, true, List, [], ◌∷◌, ◌++◌, Some, None, map, length, ◌&&◌, refl, sym, ap, ◌∙◌, subst, arith}
-use Rattle.std.proofs.lemmas.Bool.{and_parts, and_from, leb-true, le-leb}
+use Rattle.std.proofs.lemmas.Bool.{and_parts, and_from, le-leb}
 use Rattle.std.specs.Prelude.{max, nat_le}
 use Rattle.std.specs.List.{list_all}
 use Rattle.psa_model.specs.declared.walks.BranchEnd.{out-BranchEnd}
@@ -29,11 +29,12 @@ use Rattle.psa_names.specs.Outlines.{Entry, Entries, event, rule, sequence, bran
 use Rattle.psa_names.specs.Ids.{referred_id}
 use Rattle.psa_names.specs.Resolved.{resolved_test}
 use Rattle.psa_names.specs.Collected.{Collecting, total_size, all_behind, resolved_instruction, resolved_instruction_layer, resolved_path, resolved_end, resolved_branch}
-use Rattle.psa_checks.proofs.ListPlaces.{all-append}
+use Rattle.psa_names.proofs.ListPlaces.{all-append}
 use Rattle.psa_checks.proofs.SoundElements.{together-numbers}
-use Rattle.psa_checks.proofs.ElementNesting.{are_shallow, inside-shallow, no-nesting, greatest-below, together-shallow}
+use Rattle.psa_names.proofs.ElementNesting.{are_shallow, inside-shallow, no-nesting, greatest-below}
 use Rattle.psa_checks.proofs.BodyNesting.{test-nested}
-use Rattle.psa_checks.proofs.BranchForms.{contents-suc, no-depth, numbers-suc}
+use Rattle.psa_names.proofs.BranchLevels.{no-instruction, shallow-suc, path-shallow}
+use Rattle.psa_checks.proofs.BranchForms.{no-depth, numbers-suc}
 
 -- ---- instructions
 
@@ -124,20 +125,6 @@ instruction-layer levels entries from number below (DraftInstruction-F.If test f
     let more = nests-if (resolved_test entries from test) one other in
     omega (arith, both, tests, more)
 
-some-instruction : (x : DraftInstruction-F DraftInstruction)
-    → 0 < (instruction_step (map-DraftInstruction DraftInstruction Contents instruction_contents x)).nesting
-some-instruction (DraftInstruction-F.Collect f) = omega arith
-some-instruction (DraftInstruction-F.SetHouse name state) = omega arith
-some-instruction (DraftInstruction-F.Block all) = omega arith
-some-instruction (DraftInstruction-F.Rule name) = omega arith
-some-instruction (DraftInstruction-F.If test first second) = omega arith
-
--- no instruction is nested within no levels
-pub no-instruction : (i : DraftInstruction) → are_shallow 0 (instruction_contents i ∷ []) ≡ true → ⊥
-no-instruction i h = no-nesting (instruction_contents i)
-    (ap (λ (c : Contents). c.nesting) (fold_out-DraftInstruction Contents instruction_step i))
-    (some-instruction (out-DraftInstruction i)) h
-
 -- an instruction nested within some levels in a draft is nested within as many in the model
 pub instruction-nested : (levels : ℕ) (entries : Entries) → NestedAt entries levels
 instruction-nested zero entries from number i h = absurd (no-instruction i h)
@@ -156,26 +143,6 @@ instructions-nested levels entries from number all h =
     each-nested levels entries from number (instruction-nested levels entries) all h
 
 -- ---- branches
-
--- what stands in a branch is nested within the levels of the branch
-pub shallow-suc : (levels depth : ℕ) (b : DraftBranch)
-    → are_shallow levels (branch_contents (suc depth) b ∷ []) ≡ true
-    → (are_shallow levels (map instruction_contents b.instructions) ≡ true)
-    × (are_shallow levels (end_contents (λ below. branch_contents depth below) (out-DraftBranchEnd b.end) ∷ [])
-    ≡ true)
-shallow-suc levels depth b h =
-    let nested = leb-true (branch_contents (suc depth) b).nesting levels (and_parts _ true h).0 in
-    let same = ap (λ (c : Contents). c.nesting) (contents-suc depth b) in
-    all-append (λ (one : Contents). nat_le one.nesting levels) (map instruction_contents b.instructions)
-    (end_contents (λ below. branch_contents depth below) (out-DraftBranchEnd b.end) ∷ [])
-    (together-shallow levels _ (omega (arith, nested, same)))
-
--- the branch of a path is nested within the levels of the path
-pub path-shallow : (levels : ℕ) (below : DraftBranch → Contents) (path : DraftForkPath)
-    → nat_le (path_contents below path).nesting levels ≡ true → are_shallow levels (below path.branch ∷ []) ≡ true
-path-shallow levels below path h =
-    let nested = leb-true (path_contents below path).nesting levels h in
-    and_from _ true (le-leb (below path.branch).nesting levels (omega (arith, nested))) refl
 
 abbrev BranchNestedAt : Entries → ℕ → Type 0
 BranchNestedAt entries depth = (levels : ℕ) (from : Entry) (number : ℕ) (b : DraftBranch)

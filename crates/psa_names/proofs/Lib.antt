@@ -5,3 +5,12 @@ pub mod Entries
 pub mod Computed
 pub mod Conditions
 pub mod Modelled
+pub mod ListPlaces
+pub mod FirstPlaces
+pub mod Sums
+pub mod ElementNesting
+pub mod ContentsOrder
+pub mod ContentsSorted
+pub mod BranchLevels
+pub mod CollectedCounts
+pub mod FewCollected

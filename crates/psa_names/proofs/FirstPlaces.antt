@@ -4,7 +4,7 @@ use Rattle.std.proofs.lemmas.Bool.{cases_Bool, cases_lt, lt-ltb, le-ltb, eq-eqb,
 use Rattle.std.proofs.lemmas.Option.{same_Some, none-some}
 use Rattle.std.specs.List.{slice_get, filter, position, prefix_len, enumerate_from}
 use Rattle.std.specs.Option.{option_map}
-use Rattle.psa_checks.proofs.ListPlaces.{Has, has-none, has-cases}
+use Rattle.psa_names.proofs.ListPlaces.{Has, has-none, has-cases}
 
 -- the first place that passes, by recursion
 abbrev pub first : {A : Type 0} → (A → Bool) → List A → Option ℕ

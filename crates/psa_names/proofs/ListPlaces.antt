@@ -124,6 +124,11 @@ map-at f [] i y h = absurd (none-some y h)
 map-at f (x ∷ xs) zero y h = (x, refl, same_Some (f x) y h)
 map-at f (x ∷ xs) (suc i) y h = map-at f xs i y h
 
+-- one function after another is one function
+pub map-map : {A B C : Type 0} (f : B → C) (g : A → B) (xs : List A) → map f (map g xs) ≡ map (λ x. f (g x)) xs
+map-map f g [] = refl
+map-map {A} {B} {C} f g (x ∷ xs) = ap (λ (rest : List C). f (g x) ∷ rest) (map-map f g xs)
+
 -- ---- tests
 
 -- where all pass, each does

@@ -1,10 +1,11 @@
 -- The order of contents: strict, and total where definitions stand in order.
 use Rattle.std.proofs.Common.{◌≡◌, ◌⊎◌, inl, inr, ◌==◌, ◌<◌, Bool, true, false, not, nat_lt, List, [], ◌∷◌, map, ◌&&◌, ◌||◌, refl, sym, ap, ◌∙◌, arith}
 use Rattle.std.proofs.lemmas.Bool.{and_parts, and_from, or_cases, or_left, or_right, or_parts, ltb-true, lt-ltb, eqb-true, eq-eqb, not-true, not_from_false, cases_order, both_ways}
-use Rattle.psa_model.specs.Drafts.{Position, stands_before, are_ascending, position_of}
-use Rattle.psa_names.specs.Outlines.{Entry}
+use Rattle.psa_model.specs.declared.draft.Draft.{Draft}
+use Rattle.psa_model.specs.Drafts.{Position, IsDraft, stands_before, are_ascending, position_of}
+use Rattle.psa_names.specs.Outlines.{Entry, entry_of, entries_of}
 use Rattle.psa_names.specs.Collected.{contents_position, contents_before}
-use Rattle.psa_checks.proofs.ListPlaces.{Has, has-none, has-cases}
+use Rattle.psa_names.proofs.ListPlaces.{Has, has-none, has-cases, map-map}
 
 -- ---- positions
 
@@ -170,3 +171,9 @@ ascending-from (one ∷ others) h = (
   first-ascending (position_of one.definition) others h,
   ascending-from others (rest-ascending _ (map (λ (e : Entry). position_of e.definition) others) h),
 )
+
+-- the definitions stand in order
+pub entries-ascend : (draft : Draft) → IsDraft draft → IsAscending (entries_of draft)
+entries-ascend draft is =
+    ascending-from (entries_of draft) (ap are_ascending
+    (map-map (λ (e : Entry). position_of e.definition) entry_of draft.definitions) ∙ is.ascending)

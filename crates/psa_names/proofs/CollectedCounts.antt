@@ -1,7 +1,7 @@
--- The model has no more collected formulas than the draft.
+-- A body collects no more formulas than the draft counts in it.
 use Rattle.std.proofs.Common.{◌≡◌, ◌≤◌, ◌+◌, ◌==◌, ℕ, zero, suc, true, List, [], ◌∷◌, ◌++◌, None, map, length, ◌&&◌, refl, ap, subst, arith}
 use Rattle.std.proofs.lemmas.Bool.{and_parts, and_from, leb-true}
-use Rattle.std.proofs.lemmas.List.{length-map, length-append}
+use Rattle.std.proofs.lemmas.List.{length-append}
 use Rattle.std.specs.Prelude.{nat_le}
 use Rattle.std.specs.List.{flat_map}
 use Rattle.psa_model.specs.declared.draft.DraftBody.{DraftBody}
@@ -16,20 +16,11 @@ use Rattle.psa_model.specs.declared.draft.DraftInstruction.TheOpen.{DraftInstruc
 use Rattle.psa_model.specs.declared.draft.DraftInstruction.TheFolds.{fold_out-DraftInstruction, map-DraftInstruction}
 use Rattle.psa_model.specs.declared.limits.TheConstants.{MAX_NESTING}
 use Rattle.psa_model.specs.Drafts.{Contents, together, body_contents, test_contents, instruction_contents, instruction_step, path_contents, end_contents, branch_contents, some_reference}
-use Rattle.psa_names.specs.Outlines.{Entry, Entries}
-use Rattle.psa_names.specs.Resolved.{resolved_formula}
-use Rattle.psa_names.specs.Collected.{collected_by, collected_layer, collected_in, end_collected, branch_collected, by_contents}
-use Rattle.psa_names.specs.ModelOfDraft.{model_from}
-use Rattle.psa_checks.proofs.ListPlaces.{all-append}
-use Rattle.psa_checks.proofs.Definitions.{AreEntries}
-use Rattle.psa_checks.proofs.ElementNesting.{are_shallow, inside-shallow, together-shallow}
-use Rattle.psa_checks.proofs.Sums.{weigh, weigh-same}
-use Rattle.psa_checks.proofs.CollectedOrder.{weigh-by}
-use Rattle.psa_checks.proofs.BranchForms.{contents-suc, collected-suc}
-use Rattle.psa_checks.proofs.WalkNesting.{no-instruction, shallow-suc, path-shallow}
-use Rattle.psa_checks.proofs.CollectedNesting.{none-collected-empty}
-use Rattle.psa_checks.proofs.PromisedDefinitions.{its-nesting}
-use Rattle.psa_checks.proofs.Sums.{weigh-append, weigh-less, length-flat}
+use Rattle.psa_names.specs.Collected.{collected_by, collected_layer, collected_in, end_collected, branch_collected}
+use Rattle.psa_names.proofs.ListPlaces.{all-append}
+use Rattle.psa_names.proofs.ElementNesting.{are_shallow, inside-shallow, together-shallow}
+use Rattle.psa_names.proofs.Sums.{weigh, weigh-append}
+use Rattle.psa_names.proofs.BranchLevels.{contents-suc, collected-suc, none-collected-empty, no-instruction, shallow-suc, path-shallow}
 
 -- ---- collected formulas
 
@@ -153,7 +144,8 @@ branch-counted (suc depth) levels b h =
     (end_contents (λ below. branch_contents depth below) (out-DraftBranchEnd b.end) ∷ []) in
     omega (arith, steps, last, both, collected, contents, same, sums)
 
-body-counted : (levels : ℕ) (its : DraftBody) → are_shallow levels (body_contents its ∷ []) ≡ true
+-- a body collects no more formulas than the draft counts in it
+pub body-counted : (levels : ℕ) (its : DraftBody) → are_shallow levels (body_contents its ∷ []) ≡ true
     → length (collected_in its) ≤ (body_contents its).formulas
 body-counted levels (body.Steps all link) h =
     let nested = leb-true (body_contents (body.Steps all link)).nesting levels (and_parts _ true h).0 in
@@ -172,18 +164,3 @@ body-counted levels (body.Value v) h = omega arith
 body-counted levels (body.State s) h = omega arith
 body-counted levels (body.Group g) h = omega arith
 body-counted levels (body.Start t) h = omega arith
-
--- the model has no more collected formulas than the draft
-pub formulas-few : (entries : Entries) → AreEntries entries
-    → length (model_from entries).formulas ≤ weigh (λ (e : Entry). (body_contents e.body).formulas) entries
-formulas-few entries are =
-    let count = length-flat (λ (one : Entry). map (resolved_formula entries one) (collected_in one.body))
-    (by_contents entries) in
-    let same = weigh-same (λ (one : Entry). length (map (resolved_formula entries one) (collected_in one.body)))
-    (λ (one : Entry). length (collected_in one.body))
-    (λ one. length-map (collected_in one.body) (resolved_formula entries one)) (by_contents entries) in
-    let order = weigh-by (λ (one : Entry). length (collected_in one.body)) entries in
-    let less = weigh-less (λ (one : Entry). length (collected_in one.body))
-    (λ (one : Entry). (body_contents one.body).formulas) entries
-    (λ one here. body-counted MAX_NESTING one.body (its-nesting entries here.0 one one.body are here.1 refl)) in
-    omega (arith, count, same, order, less)

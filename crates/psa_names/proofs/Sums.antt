@@ -5,7 +5,7 @@ use Rattle.std.proofs.lemmas.List.{length-append}
 use Rattle.std.proofs.lemmas.List.Sums.{sum_by-cons}
 use Rattle.std.specs.Prelude.{sum}
 use Rattle.std.specs.List.{filter, flat_map, enumerate_from}
-use Rattle.psa_checks.proofs.ListPlaces.{Has, has-first, has-later}
+use Rattle.psa_names.proofs.ListPlaces.{Has, has-first, has-later}
 
 -- a sum over a list, by recursion
 abbrev pub weigh : {A : Type 0} → (A → ℕ) → List A → ℕ
