@@ -3,3 +3,5 @@
 
 mod products;
 mod section;
+
+pub use products::products_of_target;
