@@ -10,6 +10,10 @@ pub mod JoinedPaths
 pub mod NamedTrees
 pub mod DistinctTrees
 pub mod MadeDefinitions
+pub mod CollectedNumbers
+pub mod ContentsPlaces
+pub mod SortedBlocks
+pub mod CountedBefore
 pub mod CollectingInOrder
 pub mod CollectedForms
 pub mod BranchForms

@@ -7,3 +7,4 @@ pub mod Collecting
 pub mod Branches
 pub mod MadeWalks
 pub mod Groups
+pub mod Contents

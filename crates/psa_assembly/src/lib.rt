@@ -4,7 +4,9 @@
 mod branches;
 mod collected;
 mod conditions;
+mod contents;
 mod context;
+mod counting;
 mod cursor;
 mod definitions;
 mod expressions;
