@@ -1,1 +1,2 @@
 pub mod ProductNodeLemmas
+pub mod SectionLemmas

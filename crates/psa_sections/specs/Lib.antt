@@ -1,1 +1,2 @@
 pub mod ProductNodes
+pub mod Writing

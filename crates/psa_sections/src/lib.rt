@@ -5,3 +5,4 @@ mod products;
 mod section;
 
 pub use products::products_of_target;
+pub use section::write_section;
