@@ -1,2 +1,7 @@
 pub mod ProductNodeLemmas
 pub mod SectionLemmas
+pub mod TableLemmas
+pub mod ReportLemmas
+pub mod LoadedLemmas
+pub mod TargetLemmas
+pub mod SectionsLemmas

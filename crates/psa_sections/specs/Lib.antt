@@ -1,2 +1,3 @@
 pub mod ProductNodes
 pub mod Writing
+pub mod Reports

@@ -2,7 +2,9 @@
 #![tactic(auto)]
 
 mod products;
+mod report;
 mod section;
 
 pub use products::products_of_target;
+pub use report::{ReportError, write_report};
 pub use section::write_section;
