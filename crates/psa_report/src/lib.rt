@@ -14,6 +14,7 @@ mod totals;
 pub use error::WriteFault;
 pub use faults::write_fault;
 pub use head::write_head;
+pub use pieces::put_all;
 pub use products::write_product;
 pub use targets::write_target;
 pub use totals::write_totals;
