@@ -2,8 +2,12 @@ pub mod AddressLemmas
 pub mod AskedLemmas
 pub mod BoolLemmas
 pub mod DraftLemmas
+pub mod FoundLemmas
+pub mod GroupLemmas
 pub mod GroupingLemmas
 pub mod KindLemmas
+pub mod LevelLemmas
+pub mod MemberLemmas
 pub mod NotingLemmas
 pub mod NumberLemmas
 pub mod PositionLemmas

@@ -17,6 +17,7 @@ use Rattle.psa_names.specs.PlacedFaults.{PlacedFault, earliest}
 use Rattle.psa_names.specs.declared.found.Sense.{Sense}
 use Rattle.psa_names.specs.declared.found.Sense.TheVariants.{Definition, OfGroup}
 use Rattle.psa_spaces.proofs.ListLemmas.{first-at}
+use Rattle.psa_lookup.specs.Members.{sense_of}
 use Rattle.psa_lookup.specs.Senses.{Means, IsPass, fault_at_reference, faults_among, meanings_among}
 use Rattle.psa_lookup.specs.Sooner.{placed_fault, sooner_of}
 use Rattle.psa_lookup.specs.declared.placed.Placed.{Placed}
@@ -38,25 +39,28 @@ event-nowhere entries container name none path =
     ap (λ o. option_or (option_map definition o) (if not (is_path name) && is_defined_by_group entries name then Some (of_group name) else None)) (sym none)
     ∙ ap (λ b. if not b && is_defined_by_group entries name then Some (of_group name) else None) path
 
-grouped-any : (entries : Entries) (name : Text) → is_defined_by_group entries name ≡ is_some (position_from (λ one. bytes_eq one name) 0 (defined_by_groups entries))
+-- a name is defined by a group exactly where it has a number
+pub grouped-any : (entries : Entries) (name : Text) → is_defined_by_group entries name ≡ is_some (position_from (λ one. bytes_eq one name) 0 (defined_by_groups entries))
 grouped-any entries name =
     sym (any-flat (bytes_eq name) (defined_by_group entries) entries)
     ∙ any-same (bytes_eq name) (λ one. bytes_eq one name) (defined_by_groups entries) (λ one. text-turned name one)
     ∙ sym (first-some (λ one. bytes_eq one name) 0 (defined_by_groups entries))
+
+-- what a name means for which the search finds nothing
+grouped-meaning : (entries : Entries) (container : List Text) (name : Text) (number : Option ℕ) → None ≡ definition_named entries events container name → is_path name ≡ false
+    → number ≡ position_from (λ one. bytes_eq one name) 0 (defined_by_groups entries) → meaning_of_event entries container name ≡ (if is_some number then Some (of_group name) else None)
+grouped-meaning entries container name number none plain is =
+    ap (λ o. option_or (option_map definition o) (if not (is_path name) && is_defined_by_group entries name then Some (of_group name) else None)) (sym none)
+    ∙ ap (λ b. if not b && is_defined_by_group entries name then Some (of_group name) else None) plain
+    ∙ ap (λ b. if b then Some (of_group name) else None) (grouped-any entries name ∙ ap is_some (sym is))
 
 -- what the groups define
 pub event-grouped : (entries : Entries) (container : List Text) (name : Text) (number : Option ℕ) (sense : Option Sense) → None ≡ definition_named entries events container name → is_path name ≡ false
     → number ≡ position_from (λ one. bytes_eq one name) 0 (defined_by_groups entries) → sense ≡ option_map OfGroup number → Means entries sense (meaning_of_event entries container name)
 event-grouped entries container name number sense none plain is found =
     subst (λ s. Means entries s (meaning_of_event entries container name)) (sym found)
-    (subst (λ m. Means entries (option_map OfGroup number) m) (sym meaning) (by number refl))
+    (subst (λ m. Means entries (option_map OfGroup number) m) (sym (grouped-meaning entries container name number none plain is)) (by number refl))
   where
-    meaning : meaning_of_event entries container name ≡ (if is_some number then Some (of_group name) else None)
-    meaning =
-        ap (λ o. option_or (option_map definition o) (if not (is_path name) && is_defined_by_group entries name then Some (of_group name) else None)) (sym none)
-        ∙ ap (λ b. if not b && is_defined_by_group entries name then Some (of_group name) else None) plain
-        ∙ ap (λ b. if b then Some (of_group name) else None) (grouped-any entries name ∙ ap is_some (sym is))
-
     by : (o : Option ℕ) → number ≡ o → Means entries (option_map OfGroup o) (if is_some o then Some (of_group name) else None)
     by None e = refl
     by (Some n) e =
@@ -64,6 +68,27 @@ event-grouped entries container name number sense none plain is found =
         let same : n - 0 ≡ n = omega arith in
         let at : slice_get (defined_by_groups entries) n ≡ Some f.1.0 = ap (slice_get (defined_by_groups entries)) (sym same) ∙ f.1.1 in
         (of_group name, ap (option_map of_group) at ∙ ap (λ (t : Text). Some (of_group t)) (text-same f.1.0 name f.1.2), refl))
+
+-- ---- what is kept of events
+
+-- of a definition that was found
+pub sense-found : (entries : Entries) (container : List Text) (name : Text) (place : ℕ) → Some place ≡ definition_named entries events container name → Some (Definition place) ≡ sense_of entries (meaning_of_event entries container name)
+sense-found entries container name place found =
+    ap (λ o. sense_of entries (option_or (option_map definition o) (if not (is_path name) && is_defined_by_group entries name then Some (of_group name) else None))) found
+
+-- of a path for which nothing was found
+pub sense-nowhere : (entries : Entries) (container : List Text) (name : Text) → None ≡ definition_named entries events container name → is_path name ≡ true → None ≡ sense_of entries (meaning_of_event entries container name)
+sense-nowhere entries container name none path = ap (sense_of entries) (sym (event-nowhere entries container name none path))
+
+-- of an event that groups define, its first number
+pub sense-grouped : (entries : Entries) (container : List Text) (name : Text) (number : Option ℕ) (sense : Option Sense) → None ≡ definition_named entries events container name → is_path name ≡ false
+    → number ≡ position_from (λ one. bytes_eq one name) 0 (defined_by_groups entries) → sense ≡ option_map OfGroup number → sense ≡ sense_of entries (meaning_of_event entries container name)
+sense-grouped entries container name number sense none plain is found =
+    found ∙ by number is ∙ ap (sense_of entries) (sym (grouped-meaning entries container name number none plain is))
+  where
+    by : (o : Option ℕ) → o ≡ position_from (λ one. bytes_eq one name) 0 (defined_by_groups entries) → option_map OfGroup o ≡ sense_of entries (if is_some o then Some (of_group name) else None)
+    by None e = refl
+    by (Some n) e = ap (option_map OfGroup) e
 
 -- ---- a pass, one name more
 

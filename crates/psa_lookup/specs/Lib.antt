@@ -1,6 +1,7 @@
 pub mod Asking
 pub mod Grouping
 pub mod Keys
+pub mod Members
 pub mod Noting
 pub mod Numbers
 pub mod Repeats

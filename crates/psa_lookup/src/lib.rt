@@ -1,4 +1,4 @@
-//! What the names of a draft stand for, and the first fault of names and of references.
+//! What the names of a draft stand for, and its first fault of names, of references and of groups.
 #![tactic(auto)]
 
 mod asked;
@@ -6,8 +6,12 @@ mod bodies;
 mod duplicates;
 mod families;
 mod forks;
+mod found;
 mod grouped;
+mod groups;
+mod levels;
 mod lookup;
+mod members;
 mod names;
 mod notes;
 mod numbers;
@@ -19,6 +23,7 @@ mod search;
 mod states;
 mod table;
 
+pub use found::find_names;
 pub use grouped::{Grouped, group_names};
 pub use lookup::{Looked, look_up};
 pub use names::{Names, find_event};

@@ -6,6 +6,7 @@ ghost use Rattle.psa_names.specs.declared.found.Sense.TheVariants.{OfGroup};
 ghost use Rattle.psa_names.specs.Outlines.{Entries, entry_of};
 ghost use Rattle.psa_lookup.specs.Asking.{asked_reference};
 ghost use Rattle.psa_lookup.specs.Keys.{has_inside, has_whole};
+ghost use Rattle.psa_lookup.specs.Members.{sense_of};
 ghost use Rattle.psa_lookup.specs.Senses.{IsAroundIn, IsNames, IsNumberOf, Means, names_entries, names_paths};
 ghost use Rattle.psa_lookup.specs.Tables.{IsTable, meant, table_entries};
 
@@ -78,8 +79,10 @@ fn tree_number(table: &Table, definition: &DraftDefinition, number: u32) -> Opti
 pub fn find_event(names: &Names, within: u32, name: &[u8]) -> Option<Sense>
     requires names { IsNames names.now }
     requires stands { within < length (names_paths names.now) }
-    ensures { Means (names_entries names.now) result (meaning_of_event (names_entries names.now)
-        (path_at (names_paths names.now) within) name.now) }
+    ensures means { Means (names_entries names.now) result
+        (meaning_of_event (names_entries names.now) (path_at (names_paths names.now) within) name.now) }
+    ensures first { result ≡ sense_of (names_entries names.now)
+        (meaning_of_event (names_entries names.now) (path_at (names_paths names.now) within) name.now) }
 {
     if let Some(place) = find_named(&names.table, Family::Events, within, name) {
         return Some(Sense::Definition(place));
