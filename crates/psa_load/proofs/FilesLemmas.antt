@@ -1,5 +1,5 @@
 -- Steps of the reading of files in their order.
-use Rattle.std.proofs.Common.{◌≡◌, ℕ, suc, ◌+◌, ◌<◌, ◌≤◌, List, [], ◌∷◌, ◌++◌, Option, Some, None, Result, Ok, Err, MatchOption, All, map, length, take, drop, get_or, refl, sym, ap, subst, ◌∙◌, take-append-drop, drop-cons, length-take-le, length-append, take_all, le_of_lt, arith}
+use Rattle.std.proofs.Common.{◌≡◌, ℕ, suc, ◌+◌, ◌<◌, ◌≤◌, List, [], ◌∷◌, ◌++◌, Option, Some, None, Result, Ok, Err, MatchOption, length, take, drop, get_or, refl, sym, ap, subst, ◌∙◌, take-append-drop, drop-cons, length-take-le, length-append, take_all, le_of_lt, arith}
 use Rattle.std.proofs.lemmas.List.{take_more, map-append}
 use Rattle.std.proofs.lemmas.List.Elements.{All-nil, All-push}
 use Rattle.std.specs.Bool.{⊤}
@@ -15,11 +15,11 @@ use Rattle.psa_model.specs.declared.settings.Settings.{Settings}
 use Rattle.psa_outcome.specs.declared.loaded.LoadError.{LoadError}
 use Rattle.psa_outcome.specs.declared.loaded.LoadError.TheVariants.{Bad, Read, Memory}
 use Rattle.psa_outcome.specs.Causes.{LeavesRest}
-use Rattle.psa_outcome.specs.Inputs.{Told, HasTree, ReadsAs, IsFirstFault, of_text, text_fault_in}
+use Rattle.psa_outcome.specs.Inputs.{Told, HasTree, IsFirstFault, of_text, text_fault_in}
 use Rattle.psa_load.specs.declared.document.DocumentError.{DocumentError}
 use Rattle.psa_load.specs.declared.document.DocumentError.TheVariants as document
 use Rattle.psa_load.specs.Documents.{DocumentAnswers}
-use Rattle.psa_load.specs.Files.{roots_of, IsErrorOf, IsTextFault, StopsAt, FilesAnswer, AreRead}
+use Rattle.psa_load.specs.Files.{roots_of, IsErrorOf, FilesAnswer, AreRead}
 
 -- a related pair more at the end
 all-zip-push : {A B : Type 0} (R : A → B → Type 0) (xs : List A) (ys : List B) (x : A) (y : B) → AllZip R xs ys → R x y → AllZip R (xs ++ x ∷ []) (ys ++ y ∷ [])

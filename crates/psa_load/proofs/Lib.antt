@@ -1,2 +1,4 @@
 pub mod ReadingLemmas
 pub mod FilesLemmas
+pub mod AnalysisLemmas
+pub mod FewEvents

@@ -14,7 +14,7 @@ use Rattle.psa_text.specs.declared.tree.Document.{Document}
 use Rattle.psa_text.specs.declared.tree.Element.{Element}
 use Rattle.psa_text.specs.scanner.State.{HasRead, Answers, Ends}
 use Rattle.psa_text.specs.TextBytes.{line_after}
-use Rattle.psa_text.specs.TextFaults.{NoFault, FirstFault, Decides, long_file, fault}
+use Rattle.psa_text.specs.TextFaults.{NoFault, FirstFault, long_file, fault}
 use Rattle.psa_text.specs.TextOutcome.{IsRead, tree, inside, at_end}
 use Rattle.psa_ports.specs.Folder.{text_of, Opens}
 use Rattle.psa_outcome.specs.Causes.{LeavesRest}

@@ -1,8 +1,12 @@
 //! From the settings of a run and its files to what a report needs, or to the first fault.
 #![tactic(auto)]
 
+mod analysis;
 mod document;
 mod documents;
+mod sample;
 
+pub use analysis::{AnalysisError, analyse_model};
 pub use document::{DocumentError, read_document};
 pub use documents::read_documents;
+pub use sample::sample_text;

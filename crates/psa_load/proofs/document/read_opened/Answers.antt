@@ -1,4 +1,4 @@
-use Rattle.std.proofs.Common.{rules, ◌≡◌, ◌<◌, ◌≤◌, [], arith, length}
+use Rattle.std.proofs.Common.{rules, ◌≡◌, ◌<◌, [], arith, length}
 use Rattle.psa_text.proofs.TreeSizes.{tree_depth, tree_elements}
 use Rattle.psa_load.proofs.ReadingLemmas.{no-byte, got-more, fed-error, ended-tree, ended-error, passed-on, no-more-turns}
 use Rattle.psa_load.proofs.document.read_opened.Goals as goal

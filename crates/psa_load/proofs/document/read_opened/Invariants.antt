@@ -1,4 +1,4 @@
-use Rattle.std.proofs.Common.{ℕ, ◌+◌, ◌≤◌, ◌≡◌}
+use Rattle.std.proofs.Common.{◌+◌, ◌≤◌, ◌≡◌}
 use Rattle.psa_load.specs.Documents.{HasGot}
 use Rattle.psa_load.proofs.document.read_opened.Given as goal
 

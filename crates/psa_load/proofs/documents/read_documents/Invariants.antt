@@ -1,4 +1,4 @@
-use Rattle.std.proofs.Common.{ℕ, ◌+◌, ◌*◌, ◌≤◌, ◌≡◌}
+use Rattle.std.proofs.Common.{◌+◌, ◌*◌, ◌≤◌, ◌≡◌}
 use Rattle.psa_load.specs.Files.{AreRead}
 use Rattle.psa_load.proofs.documents.read_documents.Given as goal
 
