@@ -32,7 +32,8 @@ blocks-more entries k x made new there is pushed =
 pub blocks-all : (entries : Entries) (k : ℕ) (made : List Block) → length entries ≤ k → made ≡ blocks_of (take k entries) → made ≡ blocks_of entries
 blocks-all entries k made end is = is ∙ ap blocks_of (take_all k entries end)
 
-weigh-has : {A : Type 0} (f : A → ℕ) (xs : List A) (i : ℕ) (x : A) → slice_get xs i ≡ Some x → weigh f (take i xs) + f x ≤ weigh f xs
+-- the sum of those before an element, and its own, is at most that of all
+pub weigh-has : {A : Type 0} (f : A → ℕ) (xs : List A) (i : ℕ) (x : A) → slice_get xs i ≡ Some x → weigh f (take i xs) + f x ≤ weigh f xs
 weigh-has f [] i x there = absurd (none-some x there)
 weigh-has f (y ∷ xs) zero x there = let same = ap f (same_Some y x there) in omega (arith, same)
 weigh-has f (y ∷ xs) (suc i) x there = let rest = weigh-has f xs i x there in omega (arith, rest)

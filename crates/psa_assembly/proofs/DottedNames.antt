@@ -1,5 +1,5 @@
 -- A name is a path where it has a dot.
-use Rattle.std.proofs.Common.{◌≡◌, ◌<◌, ◌≤◌, ◌+◌, ℕ, true, false, List, length, take, get_or, ap, sym, ◌∙◌, arith, cond, eqb}
+use Rattle.std.proofs.Common.{◌≡◌, ◌<◌, ◌≤◌, ℕ, true, false, List, length, take, get_or, ap, sym, ◌∙◌, arith, cond, eqb}
 use Rattle.std.proofs.lemmas.Bool.{eq-eqb, le-leb, lt-leb}
 use Rattle.std.proofs.lemmas.List.{take_all}
 use Rattle.std.proofs.lemmas.List.Splits.{length-slice_split}

@@ -1,7 +1,7 @@
 -- Factors by level, one more at a time.
-use Rattle.std.proofs.Common.{◌≡◌, ◌<◌, ◌≤◌, ◌+◌, ℕ, zero, suc, Bool, true, false, List, [], ◌∷◌, ◌++◌, ◌||◌, not, map, length, take, drop, refl, ap, sym, ◌∙◌, subst, inl, inr, arith, cond, eqb, leb, if◌then◌else◌, zero-add}
+use Rattle.std.proofs.Common.{◌≡◌, ◌<◌, ◌≤◌, ◌+◌, ℕ, zero, suc, true, false, List, [], ◌∷◌, ◌++◌, ◌||◌, not, length, refl, ap, sym, ◌∙◌, inl, inr, arith, cond, eqb, leb, zero-add}
 use Rattle.std.proofs.lemmas.Bool.{cases_Bool, cases_eq, eqb-true, eqb-false, eq-eqb, ne_eqb, le-leb, lt-leb, leb-true, leb-false, or_parts, or_cases, not-true, not-false}
-use Rattle.std.proofs.lemmas.List.{append-nil, append_assoc, take_at, drop_at}
+use Rattle.std.proofs.lemmas.List.{append-nil, append_assoc}
 use Rattle.std.proofs.lemmas.List.Sums.{sum_by-append, sum_by-cons}
 use Rattle.std.specs.List.{filter, flat_map, range_with_len, count_by, insert}
 use Rattle.psa_model.specs.declared.limits.TheConstants.{MAX_MEMBERS}

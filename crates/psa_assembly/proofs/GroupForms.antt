@@ -1,5 +1,5 @@
 -- Common cause groups, from the readings of what stands in them.
-use Rattle.std.proofs.Common.{◌≡◌, ◌<◌, ◌≤◌, ◌+◌, ℕ, zero, suc, Bool, true, false, List, [], ◌∷◌, ◌++◌, Option, Some, None, map, length, take, drop, get_or, refl, ap, sym, ◌∙◌, subst, inl, inr, arith, if◌then◌else◌}
+use Rattle.std.proofs.Common.{◌≡◌, ◌<◌, ◌≤◌, ◌+◌, ℕ, List, [], ◌∷◌, ◌++◌, Option, Some, None, map, length, take, drop, get_or, refl, ap, sym, ◌∙◌, subst, inl, inr, if◌then◌else◌}
 use Rattle.std.proofs.lemmas.Bool.{cases_Bool}
 use Rattle.std.proofs.lemmas.List.{append-nil, append_assoc, map-append, take_more, take_all}
 use Rattle.std.proofs.lemmas.List.Concat.{flat_map-append}
@@ -22,9 +22,8 @@ use Rattle.psa_model.specs.declared.draft.DefinitionKind.TheVariants as kind
 use Rattle.psa_model.specs.declared.draft.DraftBody.TheVariants as body
 use Rattle.psa_model.specs.declared.draft.EventKind.TheVariants as asked
 use Rattle.psa_names.specs.declared.found.Sense.{Sense}
-use Rattle.psa_names.specs.Outlines.{Reference, Entry, Entries, entry_of, entries_of, event, expression_outline, group_outlines}
-use Rattle.psa_names.specs.Meanings.{meaning_of_event, members_of}
-use Rattle.psa_names.specs.Chains.{references_in, references_of}
+use Rattle.psa_names.specs.Outlines.{Entry, Entries, entry_of, entries_of, event, expression_outline}
+use Rattle.psa_names.specs.Chains.{references_in}
 use Rattle.psa_names.specs.Found.{meaning_of_sense}
 use Rattle.psa_names.specs.Ids.{basic_id}
 use Rattle.psa_names.specs.Resolved.{resolved_expression}
@@ -36,7 +35,7 @@ use Rattle.psa_assembly.specs.Numbering.{AreNumbers}
 use Rattle.psa_assembly.specs.Reading.{Reads}
 use Rattle.psa_assembly.proofs.CountedMembers.{IsNext, next-taken}
 use Rattle.psa_assembly.proofs.FactorLevels.{one-more-level}
-use Rattle.psa_assembly.proofs.MadeDefinitions.{made-by, references_by, references-said}
+use Rattle.psa_assembly.proofs.MadeDefinitions.{made-by, references-said}
 use Rattle.psa_assembly.proofs.ReadingInOrder.{reads-as, reads-none, reads-then, flat_map-map}
 
 -- ---- members that are paths

@@ -22,3 +22,14 @@ pub mod FactorLevels
 pub mod GroupForms
 pub mod DottedNames
 pub mod FewTrees
+pub mod Marks
+pub mod ValuesInOrder
+pub mod NextMembers
+pub mod JoinedInOrder
+pub mod EventsOfGroups
+pub mod AddedLists
+pub mod AssembledFirst
+pub mod CollectedFew
+pub mod SequenceApart
+pub mod WholeModel
+pub mod FewNumbers

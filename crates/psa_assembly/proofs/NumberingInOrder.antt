@@ -94,7 +94,7 @@ mapped-few f p xs = let a = length-map (filter p xs) f in let b = length-filter-
 
 -- ---- kinds and bodies
 
-group-or-none : (k : DefinitionKind) (b : DraftBody) → has_body k b ≡ true → (eqb (kind_number k) 5 ≡ true) ⊎ (members_of b ≡ [])
+pub group-or-none : (k : DefinitionKind) (b : DraftBody) → has_body k b ≡ true → (eqb (kind_number k) 5 ≡ true) ⊎ (members_of b ≡ [])
 group-or-none k body.Nothing is = inr refl
 group-or-none k (body.Formula f) is = inr refl
 group-or-none k (body.Value v) is = inr refl
@@ -126,7 +126,7 @@ members-counted (body.Start t) = refl
 members-counted (body.Steps i l) = refl
 members-counted (body.Walk w) = refl
 
-group-family : (k : DefinitionKind) (one : Entry) → one.kind ≡ k → eqb (kind_number k) 5 ≡ true → is_in_family groups one ≡ true
+pub group-family : (k : DefinitionKind) (one : Entry) → one.kind ≡ k → eqb (kind_number k) 5 ≡ true → is_in_family groups one ≡ true
 group-family kind.Group one same is = ap (λ i. same_family (family_of i) groups) same
 group-family kind.FaultTree one same is = absurd (false≢true is)
 group-family kind.Gate one same is = absurd (false≢true is)
@@ -334,7 +334,7 @@ group-senses-of entries (OfGroup number ∷ ss) all = by (slice_get (defined_by_
     by None is rest = absurd (false≢true (sym (ap (λ o. can_be_member entries (option_map of_group o)) is) ∙ (and_parts _ _ all).0))
     by (Some name) is rest = rw is (ap suc rest)
 
-take-mapped : {A B : Type 0} (f : A → B) (n : ℕ) (xs : List A) (front rest : List B) → length front ≡ n → map f xs ≡ front ++ rest → (map f (take n xs) ≡ front) × (map f (drop n xs) ≡ rest)
+pub take-mapped : {A B : Type 0} (f : A → B) (n : ℕ) (xs : List A) (front rest : List B) → length front ≡ n → map f xs ≡ front ++ rest → (map f (take n xs) ≡ front) × (map f (drop n xs) ≡ rest)
 take-mapped f n xs front rest is both =
     let a = sym (take-map f n xs) ∙ ap (take n) both ∙ take_at front rest n is in
     let b = sym (drop-map f n xs) ∙ ap (drop n) both ∙ drop_at front rest n is in

@@ -8,3 +8,6 @@ pub mod Branches
 pub mod MadeWalks
 pub mod Groups
 pub mod Contents
+pub mod Joining
+pub mod Values
+pub mod Assembling

@@ -33,7 +33,9 @@ pub fn context_of<'a>(
     requires numbers { AreNumbers (entries_of draft.now) numbers.now }
     requires fault_trees { fault_trees.now ≡ places_of kind_of.FaultTree (entries_of draft.now) }
     requires event_trees { event_trees.now ≡ places_of kind_of.EventTree (entries_of draft.now) }
-    ensures { IsContext result }
+    ensures context { IsContext result }
+    ensures draft { result.draft.now ≡ draft.now }
+    ensures numbers { result.numbers.now ≡ numbers.now }
 {
     Context {
         draft,

@@ -26,6 +26,13 @@ impl<'a> Cursor<'a> {
         Cursor { rest: senses }
     }
 
+    /// The senses that are still to come.
+    pub fn rest(&self) -> &'a [Sense]
+        ensures { result.now ≡ self.now }
+    {
+        self.rest
+    }
+
     /// The sense of the next reference.
     pub fn next(&mut self) -> Option<Sense>
         ensures { MatchOption result ((self.old ≡ []) × (self.new ≡ []))

@@ -1,4 +1,4 @@
-ghost use Rattle.std.specs.Prelude.{◌≡◌, ◌<◌, ◌^◌, ◌++◌, ℕ, map, take, drop, length, filter_map, IfOk, OnOk};
+ghost use Rattle.std.specs.Prelude.{◌≡◌, ◌<◌, ◌^◌, ◌++◌, ◌∷◌, [], ℕ, map, take, drop, length, filter_map, IfOk, OnOk};
 ghost use Rattle.std.specs.List.{flat_map};
 ghost use Rattle.std.specs.Option.{option_map, option_to_list};
 ghost use Rattle.psa_model.specs.declared.draft.DefinitionKind.TheVariants as kind_of;
@@ -6,7 +6,7 @@ ghost use Rattle.psa_model.specs.declared.draft.DraftBody.TheVariants as body_of
 ghost use Rattle.psa_model.specs.PathNames.{is_path as is_path_name};
 ghost use Rattle.psa_names.specs.Outlines.{Entries, entry_of, entries_of};
 ghost use Rattle.psa_names.specs.ModelOfDraft.{by_level, factor_of, group_of, member_ids};
-ghost use Rattle.psa_assembly.specs.Groups.{factor_references, ids_of, path_references, with_factor};
+ghost use Rattle.psa_assembly.specs.Groups.{event_of_group, factor_references, ids_of, names_of_groups, path_references, with_factor};
 ghost use Rattle.psa_assembly.specs.Made.{IsContext, IsMade};
 ghost use Rattle.psa_assembly.specs.Numbering.{AreNumbers};
 ghost use Rattle.psa_assembly.specs.Reading.{Reads};
@@ -16,7 +16,8 @@ use crate::cursor::Cursor;
 use crate::expressions::resolve_expression;
 use crate::numbers::{Numbers, basic_of_sense, skip_reference};
 use psa_model::{
-    DraftDefinition, DraftFactor, DraftGroup, DraftReference, EventId, Factor, Group, MAX_MEMBERS,
+    BasicEvent, DraftDefinition, DraftFactor, DraftGroup, DraftReference, EventId, Factor, Group,
+    MAX_MEMBERS, Place,
 };
 use psa_names::Sense;
 use psa_text::{Items, OutOfMemory, Text};
@@ -104,6 +105,46 @@ pub fn resolve_members(
         push_member(numbers, &mut made, members.next())?;
     }
     Ok(made)
+}
+
+/// Adds the basic events that a group at a place defines: its members that stand for no definition.
+pub fn push_events(
+    alloc: Global,
+    basics: &mut Items<BasicEvent>,
+    members: &[DraftReference],
+    senses: &[Sense],
+    place: Place,
+) -> Result<(), OutOfMemory>
+    ensures { OnOk result (basics.new ≡ basics.old
+        ++ map (event_of_group place) (names_of_groups members.now senses.now)) }
+{
+    let mut left = Cursor::new(senses);
+    for member in members {
+        push_event(alloc, basics, member, left.next(), place)?;
+    }
+    Ok(())
+}
+
+/// Adds the basic event of a member's name, where a group defines it.
+fn push_event(
+    alloc: Global,
+    basics: &mut Items<BasicEvent>,
+    member: &DraftReference,
+    sense: Option<Sense>,
+    place: Place,
+) -> Result<(), OutOfMemory>
+    ensures { OnOk result (basics.new ≡ basics.old
+        ++ map (event_of_group place) (names_of_groups (member.now ∷ []) (option_to_list sense))) }
+{
+    match sense {
+        Some(Sense::OfGroup(_)) => basics.push(BasicEvent {
+            name: Text::from_str(alloc, member.name.as_str())?,
+            place,
+            expression: None,
+        }),
+        Some(Sense::Definition(_)) => Ok(()),
+        None => Ok(()),
+    }
 }
 
 /// Adds the basic event that a member stands for.

@@ -91,3 +91,10 @@ fn is_named(draft: &Draft, trees: &[u32], number: u32, name: &Text) -> bool
         None => false,
     }
 }
+
+/// A place as a number; 0 where it is too large for one.
+pub fn number_of(place: usize) -> u32
+    ensures { place < 2 ^ 32 → result ≡ place }
+{
+    u32::try_from(place).unwrap_or(0)
+}

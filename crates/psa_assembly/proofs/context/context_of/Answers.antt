@@ -3,8 +3,8 @@ use Rattle.psa_assembly.proofs.DistinctTrees.{distinct-fault-trees, distinct-eve
 use Rattle.psa_assembly.proofs.FewTrees.{few-trees}
 use Rattle.psa_assembly.proofs.context.context_of.Goals as goal
 
-pub returns : goal.returns
-returns c = record {
+pub returns-clause-context : goal.returns-clause-context
+returns-clause-context c = record {
   numbers = c.requires.numbers;
   fault_trees = c.requires.fault_trees;
   event_trees = c.requires.event_trees;
