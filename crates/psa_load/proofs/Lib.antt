@@ -2,3 +2,11 @@ pub mod ReadingLemmas
 pub mod FilesLemmas
 pub mod AnalysisLemmas
 pub mod FewEvents
+pub mod TreeLemmas
+pub mod LoadingLemmas
+pub mod SampleLemmas
+pub mod EachOf
+pub mod DraftFiles
+pub mod ShapeFiles
+pub mod FaultFiles
+pub mod AskedFiles

@@ -62,7 +62,7 @@ first-longer bytes more found f = record {
   first = f.first;
 }
 
-reads-as : (told : Told) (name text : List ℕ) (outcome : Result Element TextFault) → text_of name told ≡ Some text → IsRead text outcome → ReadsAs told outcome name
+pub reads-as : (told : Told) (name text : List ℕ) (outcome : Result Element TextFault) → text_of name told ≡ Some text → IsRead text outcome → ReadsAs told outcome name
 reads-as told name text outcome e read = subst (λ o. IsSomeAnd o (λ bytes. IsRead bytes outcome)) (sym e) read
 
 -- ---- steps

@@ -1,3 +1,6 @@
 pub mod Documents
 pub mod Files
 pub mod Errors
+pub mod TreeErrors
+pub mod Loads
+pub mod Samples

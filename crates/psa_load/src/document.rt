@@ -8,7 +8,7 @@ ghost use Rattle.psa_load.specs.declared.document.DocumentError.TheVariants as e
 ghost use Rattle.psa_load.specs.Documents.{DocumentAnswers, Reads, text_error};
 
 use psa_ports::{Failed, Folder};
-use psa_text::{Document, Scanner, TextError, TextFault};
+use psa_text::{Document, OutOfMemory, Scanner, TextError, TextFault};
 use std::alloc::Global;
 use thiserror::Error;
 
@@ -41,6 +41,14 @@ impl From<TextError> for DocumentError {
             TextError::Fault(fault) => DocumentError::Fault(fault),
             TextError::Memory => DocumentError::Memory,
         }
+    }
+}
+
+impl From<OutOfMemory> for DocumentError {
+    ghost from_gives = { λ _ e. e ≡ error.Memory };
+
+    fn from(_error: OutOfMemory) -> DocumentError {
+        DocumentError::Memory
     }
 }
 

@@ -2,11 +2,17 @@
 #![tactic(auto)]
 
 mod analysis;
+mod copies;
 mod document;
 mod documents;
+mod input;
+mod loading;
 mod sample;
+mod trees;
 
 pub use analysis::{AnalysisError, analyse_model};
 pub use document::{DocumentError, read_document};
 pub use documents::read_documents;
+pub use loading::load;
 pub use sample::sample_text;
+pub use trees::analyse_documents;

@@ -1,9 +1,9 @@
 mod ElementForms
-mod Totals
+pub mod Totals
 mod ContentForms
-mod Weights
+pub mod Weights
 mod RowWeights
-mod ElementWeights
+pub mod ElementWeights
 mod PlacesApart
 mod Places
 mod Containers
