@@ -1,5 +1,5 @@
-pub mod Written
-pub mod Positive
-pub mod Widths
-pub mod Few
-pub mod Sections
+pub mod EndLemmas
+pub mod LimitLemmas
+pub mod CompletenessLemmas
+pub mod SettingsLimits
+pub mod FewTargets

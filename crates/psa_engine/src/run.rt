@@ -1,130 +1,177 @@
-ghost use Rattle.std.specs.Prelude.{◌≡◌, ◌+◌, ◌≤◌, ◌⊎◌, [], Some, None, IsTrue, IsSome, IfOk, IfSome, unwrap_or};
-ghost use Rattle.std.specs.Option.{option_map};
-ghost use Rattle.std.specs.Io.KnownBytes.{Appends};
-ghost use Rattle.psa_ports.specs.Counts.{Rose};
-ghost use Rattle.psa_ports.specs.Sink.{AppendsPrefix};
-ghost use Rattle.psa_engine.specs.FirstModel.{AreFirst, IsFirst, expanded_of, model_of};
-ghost use Rattle.psa_engine.specs.Lines.{status_line};
-ghost use Rattle.psa_engine.specs.Outcome.{BytesOutcome, FileHas, Outcome};
-ghost use Rattle.psa_engine.specs.Words.{file_of};
+ghost use Rattle.std.specs.Prelude.{◌≡◌, ◌≤◌, ◌+◌, ◌-◌, ◌*◌, ◌^◌, ℕ, List, None, true, All, IsTrue, IfSome, length, map};
+ghost use Rattle.std.specs.String.{string_bytes};
+ghost use Rattle.psa_engine.specs.Ends.{EndsLoaded, IsRefusedModel, PassesOn, line_of, status_of};
+ghost use Rattle.psa_model.specs.declared.settings.Settings.{Settings as SettingsValue};
+ghost use Rattle.psa_outcome.specs.Causes.{IsSample, opened_files};
+ghost use Rattle.psa_outcome.specs.Loading.{IsInput, IsLoaded, loaded_analysis};
+ghost use Rattle.psa_outcome.specs.RunOutcome.{Completeness, GrewBy, IsRefusal, RunOutcome, writes_nothing};
+ghost use Rattle.psa_outcome.specs.Runs.{run_of};
+ghost use Rattle.psa_words.specs.Given.{settings_of};
+ghost use Rattle.psa_words.specs.Refused.{refused_words_text};
 
-use crate::Status;
-use crate::files::{ReadError, read_whole};
-use crate::report::{ReportError, write_report};
-use crate::settings::first_settings;
-use crate::telling::tell;
-use crate::words::file_word;
-use psa_first_reader::read_first_model;
-use psa_model::{Expanded, Settings};
-use psa_plain::expand_plain;
+use crate::end::End;
+use crate::telling::{file_name, refuse, tell};
+use psa_load::load;
+use psa_model::{MAX_ORDER, ModelFault, Settings};
+use psa_nodes::NodeTable;
+use psa_outcome::{LoadError, Loaded, Status};
 use psa_ports::{Folder, Sink};
-use psa_text::{OutOfMemory, first_document};
+use psa_prep::EventIndex;
+use psa_sections::{ReportError, write_report};
+use psa_text::{OutOfMemory, Text};
+use psa_words::read_words;
 use std::alloc::Global;
 
-/// Reads the file that the words name, and writes the report on its model to `out`: for each top event
-/// exactly its minimal cut sets of at most 20 events, each once, by their order and then by the ranks
-/// of their events. How the run ended is told on `err`. `words` are those behind the program's name.
+/// Reads the files that the words name, or the sample model that they ask for, and writes the report on their model
+/// to `out`: for each top event and each accident sequence exactly its minimal cut sets or prime implicants within the
+/// order limit and the cutoff, each once, in order, with the intervals and the total that are asked for. `words` are
+/// those behind the program's name; `table` is made new and holds the nodes of the run afterwards. How the run ended
+/// is told on `err`.
 ///
-/// Unbuilt: the words are not one file name, or the file's text is not a first text, a small profile
-/// of the Open-PSA Model Exchange Format; nothing is written to `out`. ReadFault: only where the
-/// folder's count of faults rose; nothing is written to `out`. WriteFault: only where the count of
-/// `out` rose; a prefix of the report was written. OutOfMemory: for want of memory; a prefix of the
-/// report was written. That `err` fails changes nothing.
+/// BadWords: the words are refused; nothing is opened. BadModel: the model's first fault; nothing is written to `out`.
+/// ReadFault: only where the folder's count of faults rose; nothing is written to `out`. WriteFault: only where the
+/// count of `out` rose; a prefix of the report was written. NodeLimit: a diagram node was wanted, and as many stand as
+/// `--node-limit` allows; the head and the sections before that target were written. OutOfMemory: for want of memory;
+/// nothing was written, or the head and the sections before some target. That `err` fails changes nothing.
 pub fn analyse_words<F: Folder, O: Sink, E: Sink>(
     alloc: Global,
     words: &Vec<String>,
     files: &mut F,
     out: &mut O,
     err: &mut E,
+    table: &mut NodeTable,
 ) -> Status
-    requires { IfSome (file_of words.now.items) (λ name. IsTrue (F.allows files.old name)) }
+    requires allowed { IfSome (settings_of (map string_bytes words.now.items)) (λ settings.
+        All (λ name. IsTrue (F.allows files.old name)) (opened_files settings.input)) }
+    requires room { F.opens files.old ≤ 2 ^ 63 }
 
-    // When each status comes, and what it leaves on `out`.
-    ensures outcome { Outcome (F.texts files.old) (file_of words.now.items)
-        (Rose (F.faults files.old) (F.faults files.new))
-        (Rose (O.faults out.old) (O.faults out.new))
-        (O.written out.old) (O.written out.new) result }
+    // Where the words are refused.
+    ensures refused_words { settings_of (map string_bytes words.now.items) ≡ None
+        → (text : List ℕ) × IsRefusal refused_words_text result text
+        × GrewBy text (E.faults err.old, E.faults err.new) (E.written err.old) (E.written err.new) }
+    ensures untouched { settings_of (map string_bytes words.now.items) ≡ None
+        → (files.new ≡ files.old) × (out.new ≡ out.old) × (table.new ≡ table.old) }
 
-    // Without faults a first text gives its report, and no other text does.
-    ensures complete { (Rose (F.faults files.old) (F.faults files.new) → ⊥)
-        → (Rose (O.faults out.old) (O.faults out.new) → ⊥)
-        → FileHas (F.texts files.old) (file_of words.now.items) (λ bytes. IsSome (model_of bytes))
-        → (result ≡ Status.Done) ⊎ (result ≡ Status.OutOfMemory) }
-    ensures other_words { file_of words.now.items ≡ None → result ≡ Status.Unbuilt }
-    ensures other_texts { (Rose (F.faults files.old) (F.faults files.new) → ⊥)
-        → FileHas (F.texts files.old) (file_of words.now.items) (λ bytes. model_of bytes ≡ None)
-        → (result ≡ Status.Unbuilt) ⊎ (result ≡ Status.OutOfMemory) }
+    // Where they are not: when each status comes, what it leaves, and its line on `err`.
+    ensures outcome { IfSome (settings_of (map string_bytes words.now.items)) (λ settings.
+        (line : List ℕ) × RunOutcome settings (run_of settings (F.texts files.old) (F.rest files.new)
+        (F.opens files.new - F.opens files.old) (F.faults files.old, F.faults files.new)
+        (O.faults out.old, O.faults out.new) (O.written out.old) (O.written out.new) table.new) line result
+        × GrewBy line (E.faults err.old, E.faults err.new) (E.written err.old) (E.written err.new)) }
+    ensures completeness { IfSome (settings_of (map string_bytes words.now.items)) (λ settings.
+        Completeness settings (run_of settings (F.texts files.old) (F.rest files.new)
+        (F.opens files.new - F.opens files.old) (F.faults files.old, F.faults files.new)
+        (O.faults out.old, O.faults out.new) (O.written out.old) (O.written out.new) table.new) result) }
 
-    // The line of the status on `err`, whole where `err` did not fail.
-    ensures line { (Rose (E.faults err.old) (E.faults err.new) → ⊥)
-        → Appends (E.written err.old) (E.written err.new)
-        (status_line result (unwrap_or (file_of words.now.items) [])) }
-    ensures line_part { AppendsPrefix (E.written err.old) (E.written err.new)
-        (status_line result (unwrap_or (file_of words.now.items) [])) }
+    // What a run leaves alone.
+    ensures unopened { IfSome (settings_of (map string_bytes words.now.items)) (λ settings.
+        IsSample settings.input → files.new ≡ files.old) }
+    ensures quiet { IfSome (settings_of (map string_bytes words.now.items)) (λ settings.
+        settings.validate ≡ true → (out.new ≡ out.old) × (table.new ≡ table.old)) }
+    ensures unwritten { writes_nothing result ≡ true
+        → (out.new ≡ out.old) × (table.new ≡ table.old) }
 
-    // At most one file is opened, none where the words name none, and it is read a bounded number of times.
-    ensures opens { F.opens files.new ≤ F.opens files.old + 1 }
-    ensures unopened { file_of words.now.items ≡ None → files.new ≡ files.old }
-    ensures reads { F.reads files.new ≤ F.reads files.old + 1048577 }
+    // How often files are opened and read, and that no count of faults falls.
+    ensures opens { F.opens files.new ≤ F.opens files.old + 16 }
+    ensures reads { F.reads files.new
+        ≤ F.reads files.old + 67108865 * (F.opens files.new - F.opens files.old) }
+    ensures later { (F.faults files.old ≤ F.faults files.new) × (O.faults out.old ≤ O.faults out.new) }
 {
-    let Some(name) = file_word(words) else {
-        tell(err, Status::Unbuilt, "");
-        return Status::Unbuilt;
-    };
-    let status = run_file(alloc, name, files, out);
-    tell(err, status, name);
-    status
-}
-
-/// The run over the file of a name.
-fn run_file<F: Folder, O: Sink>(alloc: Global, name: &str, files: &mut F, out: &mut O) -> Status
-    requires { IsTrue (F.allows files.old name.now) }
-
-    ensures outcome { Outcome (F.texts files.old) (Some name.now)
-        (Rose (F.faults files.old) (F.faults files.new))
-        (Rose (O.faults out.old) (O.faults out.new))
-        (O.written out.old) (O.written out.new) result }
-    ensures opens { F.opens files.new ≤ F.opens files.old + 1 }
-    ensures reads { F.reads files.new ≤ F.reads files.old + 1048577 }
-{
-    let Ok(settings) = first_settings(alloc, name) else {
-        return Status::OutOfMemory;
-    };
-    match read_whole(alloc, files, name) {
-        Ok(Some(bytes)) => run_bytes(alloc, &settings, bytes.as_slice(), out),
-        Ok(None) => Status::Unbuilt,
-        Err(ReadError::Failed) => Status::ReadFault,
-        Err(ReadError::Memory) => Status::OutOfMemory,
+    match read_words(alloc, words) {
+        Ok(settings) => {
+            let end = run(alloc, &settings, files, out, table);
+            tell(err, &settings, &end);
+            end.status()
+        }
+        Err(error) => refuse(err, error),
     }
 }
 
-/// The run over the bytes of a file.
-fn run_bytes<O: Sink>(alloc: Global, settings: &Settings, bytes: &[u8], out: &mut O) -> Status
-    requires { AreFirst settings.now }
-    ensures { BytesOutcome settings.now bytes.now (Rose (O.faults out.old) (O.faults out.new))
-        (O.written out.old) (O.written out.new) result }
+/// The run by some settings.
+fn run<F: Folder, O: Sink>(
+    alloc: Global,
+    settings: &Settings,
+    files: &mut F,
+    out: &mut O,
+    table: &mut NodeTable,
+) -> End
+    requires input { IsInput settings.now.input }
+    requires order { settings.now.limit_order ≤ MAX_ORDER }
+    requires allowed { All (λ name. IsTrue (F.allows files.old name)) (opened_files settings.now.input) }
+    requires room { F.opens files.old ≤ 2 ^ 63 }
+
+    ensures outcome { RunOutcome settings.now (run_of settings.now (F.texts files.old) (F.rest files.new)
+        (F.opens files.new - F.opens files.old) (F.faults files.old, F.faults files.new)
+        (O.faults out.old, O.faults out.new) (O.written out.old) (O.written out.new) table.new)
+        (line_of settings.now result) (status_of result) }
+    ensures completeness { Completeness settings.now (run_of settings.now (F.texts files.old) (F.rest files.new)
+        (F.opens files.new - F.opens files.old) (F.faults files.old, F.faults files.new)
+        (O.faults out.old, O.faults out.new) (O.written out.old) (O.written out.new) table.new)
+        (status_of result) }
+    ensures unopened { IsSample settings.now.input → files.new ≡ files.old }
+    ensures quiet { settings.now.validate ≡ true → (out.new ≡ out.old) × (table.new ≡ table.old) }
+    ensures unwritten { writes_nothing (status_of result) ≡ true
+        → (out.new ≡ out.old) × (table.new ≡ table.old) }
+    ensures opens { F.opens files.new ≤ F.opens files.old + length (opened_files settings.now.input) }
+    ensures reads { F.reads files.new
+        ≤ F.reads files.old + 67108865 * (F.opens files.new - F.opens files.old) }
+    ensures later { (F.faults files.old ≤ F.faults files.new) × (O.faults out.old ≤ O.faults out.new) }
 {
-    match first_expanded(alloc, bytes) {
-        Ok(Some(expanded)) => match write_report(alloc, settings, &expanded, out) {
-            Ok(()) => Status::Done,
-            Err(ReportError::Write) => Status::WriteFault,
-            Err(ReportError::Memory) => Status::OutOfMemory,
-        },
-        Ok(None) => Status::Unbuilt,
-        Err(OutOfMemory) => Status::OutOfMemory,
+    match load(alloc, settings, files) {
+        Ok(loaded) => {
+            let end = run_loaded(alloc, &loaded, out, table);
+            table.check();
+            end
+        }
+        Err(LoadError::Bad(fault)) => refuse_model(alloc, settings, fault),
+        Err(LoadError::Read(number)) => End::Read(number),
+        Err(LoadError::Memory) => End::Memory,
     }
 }
 
-/// The model that the bytes say, with its events, or None where they are no first text.
-fn first_expanded(alloc: Global, bytes: &[u8]) -> Result<Option<Expanded>, OutOfMemory>
-    ensures exact { IfOk result (λ found. found ≡ option_map expanded_of (model_of bytes.now)) }
-    ensures first { IfOk result (λ found. IfSome found IsFirst) }
+/// The end where the model has a fault.
+fn refuse_model(alloc: Global, settings: &Settings, fault: ModelFault) -> End
+    ensures { IsRefusedModel settings.now fault result }
 {
-    let Some(document) = first_document(alloc, bytes)? else {
-        return Ok(None);
+    match Text::from_str(alloc, file_name(&settings.input, fault.file)) {
+        Ok(file) => End::Bad(fault, file),
+        Err(OutOfMemory) => End::Memory,
+    }
+}
+
+/// The run over what was loaded.
+fn run_loaded<O: Sink>(alloc: Global, loaded: &Loaded, out: &mut O, table: &mut NodeTable) -> End
+    requires loaded { IsLoaded loaded.now }
+    requires order { loaded.now.settings.limit_order ≤ MAX_ORDER }
+
+    ensures ends { EndsLoaded (loaded_analysis loaded.now) table.new (O.faults out.old, O.faults out.new)
+        (O.written out.old) (O.written out.new) result }
+    ensures quiet { loaded.now.settings.validate ≡ true
+        → (out.new ≡ out.old) × (table.new ≡ table.old) }
+    ensures later { O.faults out.old ≤ O.faults out.new }
+{
+    if loaded.settings.validate {
+        return End::Done;
+    }
+    let Ok(index) = EventIndex::of(alloc, &loaded.expanded) else {
+        return End::Memory;
     };
-    let Some(model) = read_first_model(alloc, &document.root)? else {
-        return Ok(None);
+    table.restart(loaded.settings.node_limit);
+    let end = match write_report(alloc, loaded, &index, out, table) {
+        Ok(()) => End::Done,
+        Err(ReportError::Write) => End::Write,
+        Err(ReportError::Full(number)) => End::Full(number),
+        Err(ReportError::Memory) => End::Memory,
     };
-    Ok(Some(expand_plain(alloc, model)?))
+    pass_on(out, end)
+}
+
+/// Passes on what a sink has kept back when a run ends; the end where it fails is that of a failed write.
+fn pass_on<O: Sink>(out: &mut O, end: End) -> End
+    ensures { PassesOn (O.faults out.old, O.faults out.new) (O.written out.old) (O.written out.new) end result }
+{
+    match out.flush() {
+        Ok(()) => end,
+        Err(_) => End::Write,
+    }
 }

@@ -1,46 +1,87 @@
-ghost use Rattle.std.specs.Prelude.{◌++◌, OnOk, codes};
-ghost use Rattle.std.specs.Io.KnownBytes.{Appends};
-ghost use Rattle.psa_ports.specs.Counts.{HasCause, Rose};
-ghost use Rattle.psa_ports.specs.Sink.{AppendsPrefix};
-ghost use Rattle.psa_engine.specs.Lines.{status_line};
+ghost use Rattle.std.specs.Prelude.{◌≡◌};
+ghost use Rattle.psa_engine.specs.Ends.{line_of, name_in_input, refusal_status, refusal_text};
+ghost use Rattle.psa_outcome.specs.RunOutcome.{GrewBy};
+ghost use Rattle.psa_report.specs.Pieces.{Writes};
 
-use crate::Status;
-use psa_ports::{Failed, Sink, put};
+use crate::end::End;
+use itoa::Buffer;
+use psa_model::{Input, Settings};
+use psa_outcome::Status;
+use psa_ports::Sink;
+use psa_report::{WriteFault, put_all, write_fault};
+use psa_words::WordsError;
+use sqlite_items::at;
 
-/// Tells how a run ended, in the line of its status. That the line could not be written changes nothing.
-pub fn tell<E: Sink>(err: &mut E, status: Status, name: &str)
-    ensures line { (Rose (E.faults err.old) (E.faults err.new) → ⊥)
-        → Appends (E.written err.old) (E.written err.new) (status_line status name.now) }
-    ensures part { AppendsPrefix (E.written err.old) (E.written err.new)
-        (status_line status name.now) }
+/// What is told where memory is wanting.
+const OUT_OF_MEMORY: &str = "scram: out of memory\n";
+
+/// Tells on `err` that the words are refused, or that memory was wanting to read them. That `err` fails changes
+/// nothing.
+pub fn refuse<E: Sink>(err: &mut E, error: WordsError) -> Status
+    ensures status { result ≡ refusal_status error }
+    ensures line { GrewBy (refusal_text error) (E.faults err.old, E.faults err.new)
+        (E.written err.old) (E.written err.new) }
 {
-    let _ = put_line(err, status, name);
-}
-
-fn put_line<E: Sink>(err: &mut E, status: Status, name: &str) -> Result<(), Failed>
-    ensures whole { OnOk result (Appends (E.written err.old) (E.written err.new)
-        (status_line status name.now)) }
-    ensures part { AppendsPrefix (E.written err.old) (E.written err.new)
-        (status_line status name.now) }
-    ensures cause { HasCause (E.faults err.old) (E.faults err.new) result }
-{
-    match status {
-        Status::Done => Ok(()),
-        Status::Unbuilt => put(err, b"scram: unbuilt\n"),
-        Status::ReadFault => put_unread(err, name),
-        Status::WriteFault => put(err, b"scram: cannot write\n"),
-        Status::OutOfMemory => put(err, b"scram: out of memory\n"),
+    match error {
+        WordsError::BadWords => {
+            let _ = put_all(
+                err,
+                &["scram: bad words\n", "usage: scram [options] FILE...\n"],
+            );
+            Status::BadWords
+        }
+        WordsError::Memory => {
+            let _ = put_all(err, &[OUT_OF_MEMORY]);
+            Status::OutOfMemory
+        }
     }
 }
 
-fn put_unread<E: Sink>(err: &mut E, name: &str) -> Result<(), Failed>
-    ensures whole { OnOk result (Appends (E.written err.old) (E.written err.new)
-        (codes "scram: cannot read " ++ name.now ++ codes "\n")) }
-    ensures part { AppendsPrefix (E.written err.old) (E.written err.new)
-        (codes "scram: cannot read " ++ name.now ++ codes "\n") }
-    ensures cause { HasCause (E.faults err.old) (E.faults err.new) result }
+/// Tells on `err` how a run by the settings ended, in the line of its status. That `err` fails changes nothing.
+pub fn tell<E: Sink>(err: &mut E, settings: &Settings, end: &End)
+    ensures { GrewBy (line_of settings.now end.now) (E.faults err.old, E.faults err.new)
+        (E.written err.old) (E.written err.new) }
 {
-    put(err, b"scram: cannot read ")?;
-    put(err, name.as_bytes())?;
-    put(err, b"\n")
+    let _ = write_line(err, settings, end);
+}
+
+/// Writes the line of an end; there is none where all was written.
+fn write_line<E: Sink>(err: &mut E, settings: &Settings, end: &End) -> Result<(), WriteFault>
+    ensures { Writes (E.written err.old) (E.written err.new) (E.faults err.old) (E.faults err.new)
+        (line_of settings.now end.now) result }
+{
+    match end {
+        End::Done => put_all(err, &[]),
+        End::Bad(fault, file) => write_fault(err, fault, file),
+        End::Read(number) => put_all(
+            err,
+            &[
+                "scram: cannot read ",
+                file_name(&settings.input, *number),
+                "\n",
+            ],
+        ),
+        End::Write => put_all(err, &["scram: cannot write\n"]),
+        End::Full(number) => {
+            let mut text = Buffer::new();
+            put_all(
+                err,
+                &["scram: node limit at target ", text.format(*number), "\n"],
+            )
+        }
+        End::Memory => put_all(err, &[OUT_OF_MEMORY]),
+    }
+}
+
+/// The name of the file with a number, from 0, of an input; of a sample that of the text in a file's place.
+pub fn file_name(input: &Input, number: u32) -> &str
+    ensures { result.now ≡ name_in_input input.now number }
+{
+    match input {
+        Input::Files(names) => match at(names.as_slice(), number as usize) {
+            Some(name) => name.as_str(),
+            None => "",
+        },
+        Input::Sample(_) => { if number == 0 { "sample" } else { "" } }
+    }
 }

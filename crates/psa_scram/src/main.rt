@@ -1,32 +1,46 @@
-//! `scram FILE`: reads a model file and prints the minimal cut sets of its top events.
+//! `scram [options] FILE...`: reads model files and prints, for each top event and each accident sequence, its
+//! minimal cut sets or prime implicants. docs/scram.1 tells the options.
 #![tactic(auto)]
 
-use psa_engine::{Status, analyse_words};
-use psa_ports::{StdFolder, StdSink, put};
+use psa_engine::analyse_words;
+use psa_nodes::NodeTable;
+use psa_outcome::Status;
+use psa_ports::{BlockSink, Sink, StdFolder, StdSink, put};
 use std::env;
 use std::io::{self, ErrorKind};
 use std::process::ExitCode;
 
+/// The bytes that standard output is given at once.
+const BLOCK: usize = 65_536;
+
 fn main(rt: HostRuntime) -> io::Result<ExitCode> {
     let mut files = StdFolder::new(&rt);
-    let mut out = StdSink::new(rt.stdout());
     let mut err = StdSink::new(rt.stderr());
-    let status = match words(&rt) {
-        Ok(words) => analyse_words(rt.alloc(), &words, &mut files, &mut out, &mut err),
-        Err(error) if error.kind() == ErrorKind::OutOfMemory => {
-            let _ = put(&mut err, b"scram: out of memory\n");
-            Status::OutOfMemory
-        }
-        // A word that is not UTF-8 makes the words refused, as no words are.
-        Err(_) => analyse_words(
-            rt.alloc(),
-            &Vec::new(rt.alloc()),
-            &mut files,
-            &mut out,
-            &mut err,
-        ),
+    let Ok(mut out) = BlockSink::new(rt.alloc(), StdSink::new(rt.stdout()), BLOCK) else {
+        return Ok(out_of_memory(&mut err));
     };
+    let mut table = NodeTable::new(rt.alloc());
+    let words = match words(&rt) {
+        Ok(words) => words,
+        Err(error) if error.kind() == ErrorKind::OutOfMemory => return Ok(out_of_memory(&mut err)),
+        // A word that is not UTF-8 makes the words refused, as no words are.
+        Err(_) => Vec::new(rt.alloc()),
+    };
+    let status = analyse_words(
+        rt.alloc(),
+        &words,
+        &mut files,
+        &mut out,
+        &mut err,
+        &mut table,
+    );
     Ok(ExitCode::from(status.exit()))
+}
+
+/// The exit status where memory is wanting before the run begins, after its line on standard error.
+fn out_of_memory<E: Sink>(err: &mut E) -> ExitCode {
+    let _ = put(err, b"scram: out of memory\n");
+    ExitCode::from(Status::OutOfMemory.exit())
 }
 
 /// The words behind the program's name.

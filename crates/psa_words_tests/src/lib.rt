@@ -1,11 +1,9 @@
-//! Tests of the public calls of psa_number, psa_ports, psa_subsets and psa_words.
+//! Tests of the public calls of psa_number, psa_ports and psa_words.
 #![tactic(auto)]
 
 #[cfg(test)]
 mod numbers;
 #[cfg(test)]
 mod ports;
-#[cfg(test)]
-mod subsets;
 #[cfg(test)]
 mod words;

@@ -1,0 +1,31 @@
+use Rattle.std.proofs.Common.{Global, map, arith, subst, sym}
+use Rattle.std.specs.Prelude.{List, ℕ}
+use Rattle.std.specs.String.{string_bytes}
+use Rattle.psa_outcome.specs.declared.status.Status.{Status}
+use Rattle.psa_outcome.specs.RunOutcome.{IsRefusal}
+use Rattle.psa_words.specs.Refused.{refused_words_text}
+use Rattle.psa_engine.specs.Ends.{refusal_text}
+use Rattle.psa_engine.proofs.EndLemmas.{refusal-of}
+use Rattle.psa_engine.proofs.SettingsLimits.{opened-few, settings-within}
+use Rattle.psa_engine.proofs.run.analyse_words.Goals as goal
+
+pub run-end-requires-clause-input : goal.run-end-requires-clause-input
+run-end-requires-clause-input g c =
+    (settings-within (map (string_bytes {Z = Global}) c.args.words.now.items) c.in-Ok.settings c.in-Ok.ensures).0
+
+pub run-end-requires-clause-order : goal.run-end-requires-clause-order
+run-end-requires-clause-order g c =
+    (settings-within (map (string_bytes {Z = Global}) c.args.words.now.items) c.in-Ok.settings c.in-Ok.ensures).1
+
+pub returns-in-Ok-clause-opens : goal.returns-in-Ok-clause-opens
+returns-in-Ok-clause-opens g c =
+    let few = opened-few c.in-Ok.settings.input (settings-within (map (string_bytes {Z = Global}) c.args.words.now.items) c.in-Ok.settings c.in-Ok.ensures).0 in
+    let opens = c.run-end.ensures.opens in
+    omega (arith, few, opens)
+
+pub returns-in-Err-clause-refused_words : goal.returns-in-Err-clause-refused_words
+returns-in-Err-clause-refused_words g c none = (
+  refusal_text c.in-Err.error,
+  subst (λ (s : Status). IsRefusal refused_words_text s (refusal_text c.in-Err.error)) (sym c.refuse.ensures.status) (refusal-of c.in-Err.error),
+  c.refuse.ensures.line,
+)

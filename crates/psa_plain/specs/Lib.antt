@@ -1,9 +1,0 @@
-pub mod Expansion
-pub mod Marks
-pub mod Index
-pub mod Recorded
-pub mod Asking
-pub mod Answers
-pub mod Ranking
-pub mod Tops
-pub mod Targets

@@ -1,4 +1,0 @@
-pub mod CombinationLemmas
-pub mod KeptSetLemmas
-pub mod CutSetListingLemmas
-pub mod SearchStepLemmas
