@@ -1,5 +1,5 @@
 -- How a run ends, its status and its line. (This project's own.)
-use Rattle.std.specs.Prelude.{◌≡◌, ◌⊎◌, ◌≤◌, ℕ, true, false, ⊤, List, [], Option, unwrap_or}
+use Rattle.std.specs.Prelude.{◌≡◌, ◌⊎◌, ◌≤◌, ℕ, Bool, true, false, ⊤, List, [], Option, unwrap_or}
 use Rattle.std.specs.Io.KnownBytes.{Keeps}
 use Rattle.psa_model.specs.declared.fault.ModelFault.{ModelFault}
 use Rattle.std.specs.List.{slice_get}
@@ -49,6 +49,16 @@ line_of settings (Read number) = unread_line (name_in_input settings.input numbe
 line_of settings Write = unwritten_line
 line_of settings (Full number) = node_limit_line number
 line_of settings Memory = out_of_memory_line
+
+-- the statuses at which the report, or its head and first sections, stands and nothing of it waits in the sink
+abbrev pub passes_on : Status → Bool
+passes_on status.Done = true
+passes_on (status.NodeLimit number) = true
+passes_on status.BadModel = false
+passes_on status.BadWords = false
+passes_on status.ReadFault = false
+passes_on status.WriteFault = false
+passes_on status.OutOfMemory = false
 
 -- how a report ends that was begun
 abbrev pub EndsShown : Analysis → Table → ℕ × ℕ → Option (List ℕ) → Option (List ℕ) → End → Type 0

@@ -1,6 +1,6 @@
-ghost use Rattle.std.specs.Prelude.{◌≡◌, ◌≤◌, ◌+◌, ◌-◌, ◌*◌, ◌^◌, ℕ, List, None, true, All, IsTrue, IfSome, length, map};
+ghost use Rattle.std.specs.Prelude.{◌≡◌, ◌≤◌, ◌+◌, ◌-◌, ◌*◌, ◌^◌, ℕ, List, [], None, true, false, All, IsTrue, IfSome, length, map};
 ghost use Rattle.std.specs.String.{string_bytes};
-ghost use Rattle.psa_engine.specs.Ends.{EndsLoaded, IsRefusedModel, PassesOn, line_of, status_of};
+ghost use Rattle.psa_engine.specs.Ends.{EndsLoaded, IsRefusedModel, PassesOn, line_of, passes_on, status_of};
 ghost use Rattle.psa_model.specs.declared.settings.Settings.{Settings as SettingsValue};
 ghost use Rattle.psa_outcome.specs.Causes.{IsSample, opened_files};
 ghost use Rattle.psa_outcome.specs.Loading.{IsInput, IsLoaded, loaded_analysis};
@@ -71,6 +71,10 @@ pub fn analyse_words<F: Folder, O: Sink, E: Sink>(
     ensures unwritten { writes_nothing result ≡ true
         → (out.new ≡ out.old) × (table.new ≡ table.old) }
 
+    // Nothing of what was written waits in the sink where the report, or the sections before a refused node, stands.
+    ensures passed { IfSome (settings_of (map string_bytes words.now.items)) (λ settings.
+        settings.validate ≡ false → passes_on result ≡ true → O.waiting out.new ≡ []) }
+
     // How often files are opened and read, and that no count of faults falls.
     ensures opens { F.opens files.new ≤ F.opens files.old + 16 }
     ensures reads { F.reads files.new
@@ -112,6 +116,8 @@ fn run<F: Folder, O: Sink>(
     ensures quiet { settings.now.validate ≡ true → (out.new ≡ out.old) × (table.new ≡ table.old) }
     ensures unwritten { writes_nothing (status_of result) ≡ true
         → (out.new ≡ out.old) × (table.new ≡ table.old) }
+    ensures passed { settings.now.validate ≡ false → passes_on (status_of result) ≡ true
+        → O.waiting out.new ≡ [] }
     ensures opens { F.opens files.new ≤ F.opens files.old + length (opened_files settings.now.input) }
     ensures reads { F.reads files.new
         ≤ F.reads files.old + 67108865 * (F.opens files.new - F.opens files.old) }
@@ -148,6 +154,8 @@ fn run_loaded<O: Sink>(alloc: Global, loaded: &Loaded, out: &mut O, table: &mut 
         (O.written out.old) (O.written out.new) result }
     ensures quiet { loaded.now.settings.validate ≡ true
         → (out.new ≡ out.old) × (table.new ≡ table.old) }
+    ensures passed { loaded.now.settings.validate ≡ false → passes_on (status_of result) ≡ true
+        → O.waiting out.new ≡ [] }
     ensures later { O.faults out.old ≤ O.faults out.new }
 {
     if loaded.settings.validate {
@@ -168,7 +176,9 @@ fn run_loaded<O: Sink>(alloc: Global, loaded: &Loaded, out: &mut O, table: &mut 
 
 /// Passes on what a sink has kept back when a run ends; the end where it fails is that of a failed write.
 fn pass_on<O: Sink>(out: &mut O, end: End) -> End
-    ensures { PassesOn (O.faults out.old, O.faults out.new) (O.written out.old) (O.written out.new) end result }
+    ensures end { PassesOn (O.faults out.old, O.faults out.new) (O.written out.old) (O.written out.new)
+        end result }
+    ensures passed { passes_on (status_of result) ≡ true → O.waiting out.new ≡ [] }
 {
     match out.flush() {
         Ok(()) => end,

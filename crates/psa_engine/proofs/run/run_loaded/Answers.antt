@@ -35,4 +35,4 @@ returns-clause-ends g c =
       | in-Err-Full w ↦ rw w.end-is (c.write_report.ensures.full w.in-Err-Full.number (w.in-Err-Full.is ∙ ap Err w.in-Err-Full.field-0-is))
       | in-Err-Memory w ↦ rw w.end-is (c.write_report.ensures.memory (w.in-Err-Memory.is ∙ ap Err w.in-Err-Memory.field-0-is))
     ])
-    c.write_report.ensures.later c.pass_on.ensures)
+    c.write_report.ensures.later c.pass_on.ensures.end)
