@@ -1,14 +1,14 @@
 ghost use Rattle.std.specs.Prelude.{◌≡◌, ◌<◌};
 ghost use Rattle.psa_nodes.specs.Nodes.{IsBounded};
 
-use crate::making::{bdd, cut_sets, joined, remaining, zbdd};
+use crate::making::{bdd, cut_sets, joined, least, multiplied, positive, remaining, zbdd};
 use psa_nodes::{NodeError, NodeId, NodeTable, Steps};
 use std::marker::Brand;
 use std::process::Abort;
 use std::sync::ledger::{Blank, Ledger};
 
-/// Of the families {{0}} and {{2}} the union, and of {{0, 2}, {4}} what includes no set of {{0}}, each beside
-/// the family by hand.
+/// Of the families {{0}} and {{2}} the union, of {{0, 2}, {4}} what includes no set of {{0}}, and what the other
+/// operations give, each beside the family by hand.
 fn combined<L: Ledger>(
     rt: &impl Abort,
     table: &mut NodeTable,
@@ -29,7 +29,102 @@ fn combined<L: Ledger>(
     assert_eq!(rt; both, either);
     let left = remaining(rt, table, long, first, &mut steps)?;
     assert_eq!(rt; left, last);
+    reduced(rt, table, &mut steps)?;
+    small_products(rt, table, &mut steps)?;
+    products_with_opposites(rt, table, &mut steps)
+}
+
+/// {0, 3} without its negative literal, and the least sets of {0} and {0, 2}.
+fn reduced<L: Ledger>(
+    rt: &impl Abort,
+    table: &mut NodeTable,
+    steps: &mut Steps<L>,
+) -> Result<(), NodeError>
+    requires { IsBounded table.old.nodes }
+    ensures { IsBounded table.new.nodes }
+{
+    let first = zbdd(rt, table, 0, NodeId::UNIT, NodeId::EMPTY, steps)?;
+    let negative = zbdd(rt, table, 3, NodeId::UNIT, NodeId::EMPTY, steps)?;
+    let signed = zbdd(rt, table, 0, negative, NodeId::EMPTY, steps)?;
+    let part = positive(rt, table, signed, steps)?;
+    assert_eq!(rt; part, first);
+    let second = zbdd(rt, table, 2, NodeId::UNIT, NodeId::UNIT, steps)?;
+    let nested = zbdd(rt, table, 0, second, NodeId::EMPTY, steps)?;
+    let shortest = least(rt, table, nested, steps)?;
+    assert_eq!(rt; shortest, first);
     Ok(())
+}
+
+/// Stops unless the product within the limit, either way round, is the family made by hand.
+fn expect_product<L: Ledger>(
+    rt: &impl Abort,
+    table: &mut NodeTable,
+    left: NodeId,
+    right: NodeId,
+    limit: u8,
+    family: NodeId,
+    steps: &mut Steps<L>,
+) -> Result<(), NodeError>
+    requires { IsBounded table.old.nodes }
+    ensures { IsBounded table.new.nodes }
+{
+    let found = multiplied(rt, table, left, right, limit, steps)?;
+    assert_eq!(rt; found, family);
+    let turned = multiplied(rt, table, right, left, limit, steps)?;
+    assert_eq!(rt; turned, family);
+    Ok(())
+}
+
+/// {0} with {2}, and with its opposite.
+fn small_products<L: Ledger>(
+    rt: &impl Abort,
+    table: &mut NodeTable,
+    steps: &mut Steps<L>,
+) -> Result<(), NodeError>
+    requires { IsBounded table.old.nodes }
+    ensures { IsBounded table.new.nodes }
+{
+    let opposite = zbdd(rt, table, 1, NodeId::UNIT, NodeId::EMPTY, steps)?;
+    let second = zbdd(rt, table, 2, NodeId::UNIT, NodeId::EMPTY, steps)?;
+    let first = zbdd(rt, table, 0, NodeId::UNIT, NodeId::EMPTY, steps)?;
+    let both = zbdd(rt, table, 0, second, NodeId::EMPTY, steps)?;
+    let signed = zbdd(rt, table, 1, second, NodeId::EMPTY, steps)?;
+    expect_product(rt, table, first, second, 32, both, steps)?;
+    expect_product(rt, table, first, second, 1, NodeId::EMPTY, steps)?;
+    expect_product(rt, table, first, opposite, 32, NodeId::EMPTY, steps)?;
+    expect_product(rt, table, opposite, second, 1, signed, steps)
+}
+
+/// {0} and {2, 5} with {1} and {2}: 0 does not go with 1, and {0, 2} has two occurring events.
+fn products_with_opposites<L: Ledger>(
+    rt: &impl Abort,
+    table: &mut NodeTable,
+    steps: &mut Steps<L>,
+) -> Result<(), NodeError>
+    requires { IsBounded table.old.nodes }
+    ensures { IsBounded table.new.nodes }
+{
+    let five = zbdd(rt, table, 5, NodeId::UNIT, NodeId::EMPTY, steps)?;
+    let two_five = zbdd(rt, table, 2, five, NodeId::EMPTY, steps)?;
+    let left = zbdd(rt, table, 0, NodeId::UNIT, two_five, steps)?;
+    let two = zbdd(rt, table, 2, NodeId::UNIT, NodeId::EMPTY, steps)?;
+    let right = zbdd(rt, table, 1, NodeId::UNIT, two, steps)?;
+    let short = zbdd(rt, table, 1, two_five, two_five, steps)?;
+    let long = zbdd(rt, table, 0, two, short, steps)?;
+    expect_product(rt, table, left, right, 2, long, steps)?;
+    expect_product(rt, table, left, right, 1, short, steps)?;
+    expect_product(rt, table, left, right, 0, NodeId::EMPTY, steps)?;
+    expect_product(rt, table, left, NodeId::UNIT, 1, left, steps)?;
+    expect_product(
+        rt,
+        table,
+        NodeId::UNIT,
+        NodeId::UNIT,
+        0,
+        NodeId::UNIT,
+        steps,
+    )?;
+    expect_product(rt, table, left, NodeId::EMPTY, 5, NodeId::EMPTY, steps)
 }
 
 #[test]

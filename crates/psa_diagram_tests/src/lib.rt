@@ -7,6 +7,8 @@ mod connectives;
 #[cfg(test)]
 mod families;
 #[cfg(test)]
+mod graphs;
+#[cfg(test)]
 mod limits;
 #[cfg(test)]
 mod making;

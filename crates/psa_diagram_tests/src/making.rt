@@ -7,7 +7,7 @@ use psa_nodes::{
     Kind, MAX_LITERAL_NUMBERS, MAX_RANKS, Node, NodeError, NodeId, NodeTable, Steps, TERMINALS,
 };
 use psa_prime::primes_of_bdd;
-use psa_zbdd::{minimal_of_bdd, union, without};
+use psa_zbdd::{minimal_of_bdd, minimal_sets, positive_part, product, union, without};
 use std::process::Abort;
 use std::sync::ledger::Ledger;
 
@@ -145,6 +145,51 @@ pub fn remaining<L: Ledger>(
     expect_node(rt, table, Kind::Zbdd, 0, left, steps);
     expect_node(rt, table, Kind::Zbdd, 0, right, steps);
     without(table, left, right, steps)
+}
+
+/// The unions of a set of each family, consistent and within a limit.
+pub fn multiplied<L: Ledger>(
+    rt: &impl Abort,
+    table: &mut NodeTable,
+    left: NodeId,
+    right: NodeId,
+    limit: u8,
+    steps: &mut Steps<L>,
+) -> Result<NodeId, NodeError>
+    requires { IsBounded table.old.nodes }
+    ensures { IsBounded table.new.nodes }
+{
+    expect_node(rt, table, Kind::Zbdd, 0, left, steps);
+    expect_node(rt, table, Kind::Zbdd, 0, right, steps);
+    product(table, left, right, limit, steps)
+}
+
+/// The sets of a family without their negative literals.
+pub fn positive<L: Ledger>(
+    rt: &impl Abort,
+    table: &mut NodeTable,
+    root: NodeId,
+    steps: &mut Steps<L>,
+) -> Result<NodeId, NodeError>
+    requires { IsBounded table.old.nodes }
+    ensures { IsBounded table.new.nodes }
+{
+    expect_node(rt, table, Kind::Zbdd, 0, root, steps);
+    positive_part(table, root, steps)
+}
+
+/// The sets of a family that include no other.
+pub fn least<L: Ledger>(
+    rt: &impl Abort,
+    table: &mut NodeTable,
+    root: NodeId,
+    steps: &mut Steps<L>,
+) -> Result<NodeId, NodeError>
+    requires { IsBounded table.old.nodes }
+    ensures { IsBounded table.new.nodes }
+{
+    expect_node(rt, table, Kind::Zbdd, 0, root, steps);
+    minimal_sets(table, root, steps)
 }
 
 /// The minimal cut sets of a diagram within a limit.

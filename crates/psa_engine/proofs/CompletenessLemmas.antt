@@ -20,7 +20,7 @@ use Rattle.psa_outcome.specs.declared.status.Status.TheVariants as status
 use Rattle.psa_outcome.specs.Causes.{Analysed, names_of}
 use Rattle.psa_outcome.specs.Inputs.{IsAnalysis, IsFirstFault, Told}
 use Rattle.psa_outcome.specs.Loading.{LoadOutcome, loaded_analysis}
-use Rattle.psa_outcome.specs.Origins.{AtMost, OriginIn, by_diagram}
+use Rattle.psa_outcome.specs.Origins.{AtMost, OriginIn}
 use Rattle.psa_outcome.specs.RunOutcome.{Completeness, HasAnalysis, HasFault, IsWithinLimit}
 use Rattle.psa_outcome.specs.Runs.{NoFaultRose, ReadRose, Run, all_targets}
 use Rattle.psa_outcome.proofs.OutcomeLemmas.{outcomes-same}
@@ -53,19 +53,19 @@ module _ (analysis : Analysis) (number : ℕ) (table : Table) (before after : Op
   targets =
       full.stopped.targets ∙ sym (append_assoc full.stopped.earlier (full.stopped.target ∷ []) full.stopped.behind)
 
-  from : (id : ℕ) (n : Node) → node_at table.nodes id ≡ Some n → OriginIn (by_diagram analysis) (all_targets analysis) n.kind n.var (reading table.nodes id)
+  from : (id : ℕ) (n : Node) → node_at table.nodes id ≡ Some n → OriginIn analysis (all_targets analysis) n.kind n.var (reading table.nodes id)
   from id n is =
-      subst (λ (l : List Target). OriginIn (by_diagram analysis) l n.kind n.var (reading table.nodes id)) (sym targets)
-      (origin-more (by_diagram analysis) (full.stopped.earlier ++ full.stopped.target ∷ []) full.stopped.behind n (reading table.nodes id) (full.stopped.nodes id n is))
+      subst (λ (l : List Target). OriginIn analysis l n.kind n.var (reading table.nodes id)) (sym targets)
+      (origin-more analysis (full.stopped.earlier ++ full.stopped.target ∷ []) full.stopped.behind n (reading table.nodes id) (full.stopped.nodes id n is))
 
   -- the target at which it stopped stands behind the earlier ones
   get-stopped : (earlier : List Target) (target : Target) (behind : List Target) → slice_get (earlier ++ target ∷ behind) (length earlier) ≡ Some target
   get-stopped [] target behind = refl
   get-stopped (one ∷ earlier) target behind = get-stopped earlier target behind
 
-  pub not-within : AtMost (length table.nodes) (by_diagram analysis) (all_targets analysis) → ⊥
+  pub not-within : AtMost (length table.nodes) analysis (all_targets analysis) → ⊥
   not-within =
-      refused-limit (by_diagram analysis) (all_targets analysis) table.nodes full.triple well.fit full.refusal.fits from (
+      refused-limit analysis (all_targets analysis) table.nodes full.triple well.fit full.refusal.fits from (
         length full.stopped.earlier,
         full.stopped.target,
         subst (λ (l : List Target). slice_get l (length full.stopped.earlier) ≡ Some full.stopped.target) (sym full.stopped.targets)
@@ -140,8 +140,8 @@ module _ (settings : Settings) (run : Run) (answer : Result Loaded LoadError) (o
         within analysis same (inl checks) = false≢true (sym shows-too ∙ checks)
         within analysis same (inr most) =
             not-within (loaded_analysis loaded) number run.table run.before run.after well full
-            (subst (λ (a : Analysis). AtMost (length run.table.nodes) (by_diagram a) (all_targets a)) (sym same)
-            (subst (λ (o : Option ℕ). IfSome o (λ limit. AtMost limit (by_diagram analysis) (all_targets analysis))) node-limit most))
+            (subst (λ (a : Analysis). AtMost (length run.table.nodes) a (all_targets a)) (sym same)
+            (subst (λ (o : Option ℕ). IfSome o (λ limit. AtMost limit analysis (all_targets analysis))) node-limit most))
 
         of : (told : Option Told) → Analysed settings told (λ analysis. loaded_analysis loaded ≡ analysis) → IsSomeAnd told (λ files. (analysis : Analysis) × IsAnalysis settings (names_of settings.input) files analysis × IsWithinLimit settings analysis) → ⊥
         of None analysed none = none

@@ -1,6 +1,8 @@
 ghost use Rattle.std.specs.Prelude.{◌≡◌, ◌≤◌, ◌+◌, ◌-◌, ◌*◌, ◌^◌, ℕ, List, [], None, true, false, All, IsTrue, IfSome, length, map};
 ghost use Rattle.std.specs.String.{string_bytes};
 ghost use Rattle.psa_engine.specs.Ends.{EndsLoaded, IsRefusedModel, PassesOn, line_of, passes_on, status_of};
+ghost use Rattle.psa_load.specs.declared.document.TheConstants.{MAX_READS};
+ghost use Rattle.psa_model.specs.declared.limits.TheConstants.{MAX_FILES};
 ghost use Rattle.psa_model.specs.declared.settings.Settings.{Settings as SettingsValue};
 ghost use Rattle.psa_outcome.specs.Causes.{IsSample, opened_files};
 ghost use Rattle.psa_outcome.specs.Loading.{IsInput, IsLoaded, loaded_analysis};
@@ -76,9 +78,9 @@ pub fn analyse_words<F: Folder, O: Sink, E: Sink>(
         settings.validate ≡ false → passes_on result ≡ true → O.waiting out.new ≡ []) }
 
     // How often files are opened and read, and that no count of faults falls.
-    ensures opens { F.opens files.new ≤ F.opens files.old + 16 }
+    ensures opens { F.opens files.new ≤ F.opens files.old + MAX_FILES }
     ensures reads { F.reads files.new
-        ≤ F.reads files.old + 67108865 * (F.opens files.new - F.opens files.old) }
+        ≤ F.reads files.old + MAX_READS * (F.opens files.new - F.opens files.old) }
     ensures later { (F.faults files.old ≤ F.faults files.new) × (O.faults out.old ≤ O.faults out.new) }
 {
     match read_words(alloc, words) {
@@ -120,7 +122,7 @@ fn run<F: Folder, O: Sink>(
         → O.waiting out.new ≡ [] }
     ensures opens { F.opens files.new ≤ F.opens files.old + length (opened_files settings.now.input) }
     ensures reads { F.reads files.new
-        ≤ F.reads files.old + 67108865 * (F.opens files.new - F.opens files.old) }
+        ≤ F.reads files.old + MAX_READS * (F.opens files.new - F.opens files.old) }
     ensures later { (F.faults files.old ≤ F.faults files.new) × (O.faults out.old ≤ O.faults out.new) }
 {
     match load(alloc, settings, files) {

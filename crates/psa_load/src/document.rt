@@ -5,6 +5,7 @@ ghost use Rattle.psa_text.specs.Tree.{depth};
 ghost use Rattle.psa_text.specs.TreeSize.{elements_in};
 ghost use Rattle.psa_ports.specs.Counts.{Rose, one_more};
 ghost use Rattle.psa_load.specs.declared.document.DocumentError.TheVariants as error;
+ghost use Rattle.psa_load.specs.declared.document.TheConstants.{MAX_READS};
 ghost use Rattle.psa_load.specs.Documents.{DocumentAnswers, Reads, text_error};
 
 use psa_ports::{Failed, Folder};
@@ -14,7 +15,7 @@ use thiserror::Error;
 
 /// The most reads of a file: each but the last gives a byte at least, and a byte more than a text may
 /// have ends them.
-const MAX_READS: u64 = 67_108_865;
+pub const MAX_READS: u64 = 67_108_865;
 
 /// The bytes that one read asks for.
 const PIECE: usize = 16_384;
@@ -78,7 +79,7 @@ pub fn read_document<F: Folder>(
 
     ensures later { F.faults files.old ≤ F.faults files.new }
     ensures opens { F.opens files.new ≡ one_more (F.opens files.old) }
-    ensures reads { F.reads files.new ≤ F.reads files.old + 67108865 }
+    ensures reads { F.reads files.new ≤ F.reads files.old + MAX_READS }
     ensures texts { F.texts files.new ≡ F.texts files.old }
     ensures allows { F.allows files.new ≡ F.allows files.old }
 {
@@ -102,7 +103,7 @@ fn read_opened<F: Folder>(
 
     ensures later { F.faults files.old ≤ F.faults files.new }
     ensures opens { F.opens files.new ≡ F.opens files.old }
-    ensures reads { F.reads files.new ≤ F.reads files.old + 67108865 }
+    ensures reads { F.reads files.new ≤ F.reads files.old + MAX_READS }
     ensures texts { F.texts files.new ≡ F.texts files.old }
     ensures allows { F.allows files.new ≡ F.allows files.old }
 {

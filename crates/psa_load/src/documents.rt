@@ -5,6 +5,7 @@ ghost use Rattle.psa_text.specs.TreeSize.{elements_in};
 ghost use Rattle.psa_ports.specs.Counts.{Rose};
 ghost use Rattle.psa_outcome.specs.declared.loaded.LoadError.TheVariants as error;
 ghost use Rattle.psa_outcome.specs.Inputs.{text_fault_kind};
+ghost use Rattle.psa_load.specs.declared.document.TheConstants.{MAX_READS};
 ghost use Rattle.psa_load.specs.declared.document.DocumentError.TheVariants as document;
 ghost use Rattle.psa_load.specs.Files.{FilesAnswer, IsErrorOf};
 
@@ -41,7 +42,7 @@ pub fn read_documents<F: Folder>(
     ensures later { F.faults files.old ≤ F.faults files.new }
     ensures opens { F.opens files.new ≤ F.opens files.old + length names.now }
     ensures reads { F.reads files.new
-        ≤ F.reads files.old + 67108865 * (F.opens files.new - F.opens files.old) }
+        ≤ F.reads files.old + MAX_READS * (F.opens files.new - F.opens files.old) }
     ensures texts { F.texts files.new ≡ F.texts files.old }
 {
     let mut documents = Items::new(alloc);

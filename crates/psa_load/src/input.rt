@@ -6,6 +6,7 @@ ghost use Rattle.psa_ports.specs.Counts.{Rose};
 ghost use Rattle.psa_outcome.specs.declared.loaded.LoadError.TheVariants as error;
 ghost use Rattle.psa_outcome.specs.Causes.{IsFiles, IsSample, names_of, opened_files, sample_name, told_of};
 ghost use Rattle.psa_outcome.specs.Loading.{IsInput};
+ghost use Rattle.psa_load.specs.declared.document.TheConstants.{MAX_READS};
 ghost use Rattle.psa_load.specs.declared.document.DocumentError.TheVariants as document;
 ghost use Rattle.psa_load.specs.Documents.{DocumentAnswers};
 ghost use Rattle.psa_load.specs.Files.{FilesAnswer};
@@ -46,7 +47,7 @@ pub(crate) fn input_documents<F: Folder>(
     ensures later { F.faults files.old ≤ F.faults files.new }
     ensures opens { F.opens files.new ≤ F.opens files.old + length (opened_files input.now) }
     ensures reads { F.reads files.new
-        ≤ F.reads files.old + 67108865 * (F.opens files.new - F.opens files.old) }
+        ≤ F.reads files.old + MAX_READS * (F.opens files.new - F.opens files.old) }
     ensures unopened { IsSample input.now → files.new ≡ files.old }
 {
     match input {

@@ -11,7 +11,7 @@ mod sample;
 mod trees;
 
 pub use analysis::{AnalysisError, analyse_model};
-pub use document::{DocumentError, read_document};
+pub use document::{DocumentError, MAX_READS, read_document};
 pub use documents::read_documents;
 pub use loading::load;
 pub use sample::sample_text;

@@ -2,11 +2,12 @@ ghost use Rattle.std.specs.Prelude.{◌≡◌, ◌+◌, ◌-◌, ◌*◌, ◌^�
 ghost use Rattle.psa_outcome.specs.Causes.{IsSample, opened_files, told_of};
 ghost use Rattle.psa_outcome.specs.Loading.{IsInput, IsLoaded, LoadOutcome, loaded_analysis};
 ghost use Rattle.psa_model.specs.declared.fault.ModelFault.{ModelFault};
-ghost use Rattle.psa_words.specs.declared.limits.TheConstants.{MAX_FILES};
+ghost use Rattle.psa_model.specs.declared.limits.TheConstants.{MAX_FILES};
 ghost use Rattle.psa_text.specs.declared.limits.TheConstants.{MAX_DEPTH, MAX_ELEMENTS};
 ghost use Rattle.psa_text.specs.Tree.{depth};
 ghost use Rattle.psa_text.specs.TreeSize.{elements_in};
 ghost use Rattle.psa_outcome.specs.Analyses.{analysis_of};
+ghost use Rattle.psa_load.specs.declared.document.TheConstants.{MAX_READS};
 ghost use Rattle.psa_load.specs.declared.analysis.AnalysisError.TheVariants as error;
 ghost use Rattle.psa_load.specs.Files.{roots_of};
 ghost use Rattle.psa_load.specs.Loads.{load_error};
@@ -56,7 +57,7 @@ pub fn load<F: Folder>(
     ensures opens { F.opens files.new
         ≤ F.opens files.old + length (opened_files settings.now.input) }
     ensures reads { F.reads files.new
-        ≤ F.reads files.old + 67108865 * (F.opens files.new - F.opens files.old) }
+        ≤ F.reads files.old + MAX_READS * (F.opens files.new - F.opens files.old) }
     ensures unopened { IsSample settings.now.input → files.new ≡ files.old }
 {
     let documents = input_documents(alloc, files, &settings.input)?;

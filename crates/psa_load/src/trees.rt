@@ -9,7 +9,7 @@ ghost use Rattle.psa_elements.specs.DraftReading.{draft_of};
 ghost use Rattle.psa_elements.specs.ShapeFaults.{shape_fault};
 ghost use Rattle.psa_names.specs.ModelOfDraft.{model_of};
 ghost use Rattle.psa_names.specs.NameFaults.{name_fault};
-ghost use Rattle.psa_words.specs.declared.limits.TheConstants.{MAX_FILES};
+ghost use Rattle.psa_model.specs.declared.limits.TheConstants.{MAX_FILES};
 ghost use Rattle.psa_outcome.specs.Analyses.{analysis_of};
 ghost use Rattle.psa_outcome.specs.Loading.{IsLoaded, loaded_analysis};
 ghost use Rattle.psa_load.specs.declared.analysis.AnalysisError.TheVariants as error;

@@ -1,3 +1,6 @@
+/// The greatest number of files of a model.
+pub const MAX_FILES: usize = 16;
+
 /// The greatest number of instructions carried out on one path.
 pub const MAX_INSTRUCTIONS: u32 = 256;
 

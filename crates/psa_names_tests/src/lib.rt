@@ -6,8 +6,14 @@ mod accepted;
 #[cfg(test)]
 mod documents;
 #[cfg(test)]
-mod names;
+mod lines;
 #[cfg(test)]
 mod outlines;
 #[cfg(test)]
 mod refused;
+#[cfg(test)]
+mod rows;
+#[cfg(test)]
+mod tests;
+#[cfg(test)]
+mod worked;

@@ -1,10 +1,9 @@
 //! Models with a fault of names: by the fault that is told, each in a line without the root.
 
-/// Models with their faults, one a line.
-#[rattlefmt::skip]
-pub const REFUSED: [&str; 6] = [DUPLICATE, UNDEFINED, WRONG_KIND, BAD_GROUP, CYCLE, ORDER];
-
-const DUPLICATE: &str = "\
+/// Rows, as `wrong_rows` reads them.
+pub const REFUSED: &str = "\
+<opsa-mef> ... </opsa-mef>
+# names that stand already in their space
 <define-fault-tree name='F'></define-fault-tree><define-fault-tree name='F'></define-fault-tree> => duplicate F
 <define-fault-tree name='F'><define-gate name='g'><constant value='true'/></define-gate></define-fault-tree><model-data><define-basic-event name='g'/></model-data> => duplicate g
 <model-data><define-basic-event name='e'/><define-house-event name='e'/></model-data> => duplicate e
@@ -26,9 +25,7 @@ const DUPLICATE: &str = "\
 <define-event-tree name='E'><define-sequence name='S'/><define-sequence name='S'/><initial-state><sequence name='S'/></initial-state></define-event-tree> => duplicate S
 <define-event-tree name='E'><define-sequence name='S'/><define-branch name='b'><sequence name='S'/></define-branch><define-branch name='b'><sequence name='S'/></define-branch><initial-state><sequence name='S'/></initial-state></define-event-tree> => duplicate b
 <define-event-tree name='E'><define-sequence name='S'/><define-functional-event name='f'/><initial-state><fork functional-event='f'><path state='s'><sequence name='S'/></path><path state='s'><sequence name='S'/></path></fork></initial-state></define-event-tree> => duplicate s
-";
-
-const UNDEFINED: &str = "\
+# names that nothing has
 <define-fault-tree name='F'><define-gate name='g'><gate name='h'/></define-gate></define-fault-tree> => undefined h
 <define-fault-tree name='F'><define-gate name='g'><basic-event name='e'/></define-gate></define-fault-tree> => undefined e
 <define-fault-tree name='F'><define-gate name='g'><house-event name='e'/></define-gate></define-fault-tree> => undefined e
@@ -55,9 +52,12 @@ const UNDEFINED: &str = "\
 <define-fault-tree name='F'><define-basic-event name='e' role='private'/></define-fault-tree><define-rule name='R'><collect-formula><basic-event name='e'/></collect-formula></define-rule> => undefined e
 <define-CCF-group name='G' model='MGL'><members><basic-event name='a'/><basic-event name='F.b'/></members><distribution><float value='0.1'/></distribution><factor level='2'><int value='0'/></factor></define-CCF-group> => undefined F.b
 <model-data><define-parameter name='p'><int value='1'/></define-parameter></model-data><define-fault-tree name='F'><define-gate name='g'><gate name='p'/></define-gate></define-fault-tree> => undefined p
-";
-
-const WRONG_KIND: &str = "\
+<define-fault-tree name='E'><define-basic-event name='e' role='private'/></define-fault-tree><define-event-tree name='E'><define-sequence name='S'/><initial-state><collect-formula><basic-event name='e'/></collect-formula><sequence name='S'/></initial-state></define-event-tree> => undefined e
+<define-fault-tree name='F'><define-CCF-group name='G' model='MGL'><members><basic-event name='a'/><basic-event name='b'/></members><distribution><float value='0.1'/></distribution><factor level='2'><int value='0'/></factor></define-CCF-group><define-gate name='g'><basic-event name='F.a'/></define-gate></define-fault-tree> => undefined F.a
+<define-fault-tree name='F'><define-parameter name='p' role='private'><int value='1'/></define-parameter></define-fault-tree><model-data><define-basic-event name='e'><parameter name='p'/></define-basic-event></model-data> => undefined p
+<define-event-tree name='E'><define-sequence name='S'><rule name='Q'/></define-sequence><initial-state><branch name='b'/></initial-state></define-event-tree> => undefined Q
+^|<define-fault-tree name='F'><define-gate name='g'><gate name='h'/></define-gate></define-fault-tree> => 1:2: undefined h
+# names of another kind
 <model-data><define-basic-event name='e'/></model-data><define-fault-tree name='F'><define-gate name='g'><gate name='e'/></define-gate></define-fault-tree> => wrong kind e
 <define-fault-tree name='F'><define-gate name='a'><constant value='true'/></define-gate><define-gate name='g'><basic-event name='a'/></define-gate></define-fault-tree> => wrong kind a
 <model-data><define-basic-event name='e'/></model-data><define-fault-tree name='F'><define-gate name='g'><house-event name='e'/></define-gate></define-fault-tree> => wrong kind e
@@ -66,9 +66,9 @@ const WRONG_KIND: &str = "\
 <define-fault-tree name='F'><define-gate name='a'><constant value='true'/></define-gate></define-fault-tree><define-CCF-group name='G' model='MGL'><members><basic-event name='b'/><basic-event name='F.a'/></members><distribution><float value='0.1'/></distribution><factor level='2'><int value='0'/></factor></define-CCF-group> => wrong kind F.a
 <define-fault-tree name='F'><define-basic-event name='a' role='private'/><define-component name='C'><define-gate name='a' role='private'><constant value='true'/></define-gate><define-gate name='g'><basic-event name='a'/></define-gate></define-component></define-fault-tree> => wrong kind a
 <define-CCF-group name='G' model='MGL'><members><basic-event name='a'/><basic-event name='b'/></members><distribution><float value='0.1'/></distribution><factor level='2'><int value='0'/></factor></define-CCF-group><define-fault-tree name='F'><define-gate name='g'><gate name='a'/></define-gate></define-fault-tree> => wrong kind a
-";
-
-const BAD_GROUP: &str = "\
+<define-fault-tree name='F'><define-house-event name='h'/></define-fault-tree><define-CCF-group name='G' model='MGL'><members><basic-event name='b'/><basic-event name='F.h'/></members><distribution><float value='0.1'/></distribution><factor level='2'><int value='0'/></factor></define-CCF-group> => wrong kind F.h
+<define-fault-tree name='F'><define-house-event name='a' role='private'/><define-component name='C'><define-gate name='g'><basic-event name='a'/></define-gate></define-component></define-fault-tree><model-data><define-basic-event name='a'/></model-data> => wrong kind a
+# groups that are not allowed
 <define-CCF-group name='G' model='beta-factor'><members><basic-event name='a'/></members><distribution><float value='0.1'/></distribution><factor level='1'><int value='0'/></factor></define-CCF-group> => bad group G
 <define-CCF-group name='G' model='beta-factor'><members><basic-event name='a'/><basic-event name='b'/><basic-event name='c'/><basic-event name='d'/><basic-event name='e'/><basic-event name='f'/><basic-event name='g'/><basic-event name='h'/><basic-event name='i'/></members><distribution><float value='0.1'/></distribution><factor level='9'><int value='0'/></factor></define-CCF-group> => bad group G
 <define-CCF-group name='G' model='MGL'><members><basic-event name='a'/><basic-event name='a'/></members><distribution><float value='0.1'/></distribution><factor level='2'><int value='0'/></factor></define-CCF-group> => bad group G
@@ -90,9 +90,10 @@ const BAD_GROUP: &str = "\
 <define-CCF-group name='G' model='beta-factor'><members><basic-event name='a'/><basic-event name='b'/></members><distribution><float value='0.1'/></distribution></define-CCF-group> => bad group G
 <define-CCF-group name='G' model='beta-factor'><members><basic-event name='a'/><basic-event name='b'/></members><distribution><float value='0.1'/></distribution><factor level='2'><int value='0'/></factor><factor level='2'><int value='0'/></factor></define-CCF-group> => bad group G
 <define-CCF-group name='G' model='beta-factor'><members><basic-event name='a'/><basic-event name='b'/></members><distribution><float value='0.1'/></distribution><factor><int value='0'/></factor><factor level='2'><int value='0'/></factor></define-CCF-group> => bad group G
-";
-
-const CYCLE: &str = "\
+<define-fault-tree name='F'><define-basic-event name='a'/></define-fault-tree><define-CCF-group name='G' model='MGL'><members><basic-event name='a'/><basic-event name='b'/></members><distribution><float value='0.1'/></distribution><factor level='2'><int value='0'/></factor></define-CCF-group><define-CCF-group name='H' model='MGL'><members><basic-event name='F.a'/><basic-event name='c'/></members><distribution><float value='0.1'/></distribution><factor level='2'><int value='0'/></factor></define-CCF-group> => bad group H
+<define-CCF-group name='G' model='MGL'><members><basic-event name='a'/><basic-event name='b'/></members><distribution><float value='0.1'/></distribution><factor level='2'><int value='0'/></factor></define-CCF-group><define-CCF-group name='H' model='MGL'><members><basic-event name='b'/><basic-event name='c'/></members><distribution><float value='0.1'/></distribution><factor level='2'><int value='0'/></factor></define-CCF-group><define-CCF-group name='K' model='MGL'><members><basic-event name='b'/><basic-event name='d'/></members><distribution><float value='0.1'/></distribution><factor level='2'><int value='0'/></factor></define-CCF-group> => bad group H
+<define-CCF-group name='G' model='alpha-factor'><members><basic-event name='a'/><basic-event name='b'/></members><distribution><float value='0.1'/></distribution><factor level='2'><int value='0'/></factor><factor level='2'><int value='0'/></factor></define-CCF-group> => bad group G
+# cycles
 <define-fault-tree name='F'><define-gate name='g'><gate name='g'/></define-gate></define-fault-tree> => cycle g
 <define-fault-tree name='F'><define-gate name='a'><gate name='b'/></define-gate><define-gate name='b'><gate name='a'/></define-gate></define-fault-tree> => cycle a
 <define-fault-tree name='F'><define-gate name='a'><gate name='b'/></define-gate><define-gate name='b'><gate name='c'/></define-gate><define-gate name='c'><gate name='b'/></define-gate></define-fault-tree> => cycle b
@@ -106,9 +107,7 @@ const CYCLE: &str = "\
 <define-event-tree name='E'><define-sequence name='S'/><define-sequence name='T'><event-tree name='D'/></define-sequence><initial-state><sequence name='T'/></initial-state></define-event-tree><define-event-tree name='D'><define-sequence name='S'/><define-sequence name='U'><event-tree name='E'/></define-sequence><initial-state><sequence name='U'/></initial-state></define-event-tree> => cycle E
 <define-fault-tree name='F'><define-component name='C' role='private'><define-gate name='g'><gate name='F.D.g'/></define-gate></define-component><define-component name='D' role='private'><define-gate name='g'><gate name='F.C.g'/></define-gate></define-component></define-fault-tree> => cycle g
 <define-fault-tree name='F'><define-gate name='a'><gate name='d'/></define-gate><define-gate name='b'><gate name='c'/></define-gate><define-gate name='c'><gate name='b'/></define-gate><define-gate name='d'><gate name='a'/></define-gate></define-fault-tree> => cycle a
-";
-
-const ORDER: &str = "\
+# each check goes through the whole model before the next
 <define-fault-tree name='F'><define-gate name='g'><gate name='h'/></define-gate></define-fault-tree><define-fault-tree name='F'></define-fault-tree> => duplicate F
 <define-CCF-group name='G' model='MGL'><members><basic-event name='a'/></members><distribution><float value='0.1'/></distribution><factor level='2'><int value='0'/></factor></define-CCF-group><define-fault-tree name='F'><define-gate name='g'><gate name='h'/></define-gate></define-fault-tree> => undefined h
 <define-fault-tree name='F'><define-gate name='a'><gate name='a'/></define-gate></define-fault-tree><define-CCF-group name='G' model='MGL'><members><basic-event name='a'/></members><distribution><float value='0.1'/></distribution><factor level='2'><int value='0'/></factor></define-CCF-group> => bad group G
@@ -116,4 +115,5 @@ const ORDER: &str = "\
 <model-data><define-basic-event name='e'/></model-data><define-fault-tree name='F'><define-gate name='b'><gate name='x'/></define-gate><define-gate name='a'><gate name='e'/></define-gate></define-fault-tree> => undefined x
 <define-fault-tree name='F'><define-gate name='g'><gate name='x'/></define-gate></define-fault-tree><define-event-tree name='E'><define-sequence name='S'/><initial-state><branch name='b'/></initial-state></define-event-tree> => undefined x
 <define-CCF-group name='G' model='MGL'><members><basic-event name='a'/><basic-event name='b'/></members><distribution><float value='0.1'/></distribution></define-CCF-group><define-CCF-group name='H' model='MGL'><members><basic-event name='c'/></members><distribution><float value='0.1'/></distribution><factor level='2'><int value='0'/></factor></define-CCF-group> => bad group G
+<define-fault-tree name='F'><define-gate name='g'><gate name='h'/></define-gate></define-fault-tree>^|<define-fault-tree name='F'/> => 1:2: duplicate F
 ";

@@ -122,9 +122,12 @@ module _ (analysis : Analysis) (target : Target) (ns : List Node) (fit : AllFit 
 
     high-by-kind : (k : Kind) → n.kind ≡ k → Origin analysis target k n.var (reading ns id) → Origin analysis target k child.var (reading ns n.hi.0)
     high-by-kind node.Bdd kind o = record {
-      part = o.part;
-      is_part = o.is_part;
-      cofactors = side-cofactors o.part (truth ns id) (truth ns n.hi.0) n.var child.var true later side agree o.cofactors;
+      by_diagram = o.by_diagram;
+      of_part = record {
+        part = o.of_part.part;
+        is_part = o.of_part.is_part;
+        cofactors = side-cofactors o.of_part.part (truth ns id) (truth ns n.hi.0) n.var child.var true later side agree o.of_part.cofactors;
+      };
     }
       where
         later : n.var < child.var
@@ -158,9 +161,12 @@ module _ (analysis : Analysis) (target : Target) (ns : List Node) (fit : AllFit 
 
     low-by-kind : (k : Kind) → n.kind ≡ k → Origin analysis target k n.var (reading ns id) → Origin analysis target k child.var (reading ns n.lo.0)
     low-by-kind node.Bdd kind o = record {
-      part = o.part;
-      is_part = o.is_part;
-      cofactors = side-cofactors o.part (truth ns id) (truth ns n.lo.0) n.var child.var false later side agree o.cofactors;
+      by_diagram = o.by_diagram;
+      of_part = record {
+        part = o.of_part.part;
+        is_part = o.of_part.is_part;
+        cofactors = side-cofactors o.of_part.part (truth ns id) (truth ns n.lo.0) n.var child.var false later side agree o.of_part.cofactors;
+      };
     }
       where
         later : n.var < child.var

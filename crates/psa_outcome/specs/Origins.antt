@@ -1,6 +1,6 @@
 -- From which function of which target a node of the run's table comes. (This project's own; cofactors are Shannon's,
 -- cut sets and prime implicants those of Rauzy, Coudert and Madre.)
-use Rattle.std.specs.Prelude.{◌≡◌, ◌⊎◌, ◌≤◌, ℕ, true, List, [], ◌∷◌, Some, All, ⊤, length, filter, nat_lt}
+use Rattle.std.specs.Prelude.{◌≡◌, ◌⊎◌, ◌≤◌, ℕ, Bool, true, false, List, [], ◌∷◌, Some, All, ⊤, length, filter, nat_lt}
 use Rattle.std.specs.List.{slice_get, list_all}
 use Rattle.psa_logic.specs.Sets.{is_ascending, occurs}
 use Rattle.psa_logic.specs.Products.{IsImplicant, positive_product, rank_of, is_consistent, is_positive}
@@ -34,9 +34,19 @@ pub record IsPartProduct (expanded : Expanded) (target : Target) (limit : ℕ) (
   pub within : length (filter is_positive product) ≤ limit
   pub implies : IsImplicant part product ⊎ ((set : List ℕ) × (product ≡ positive_product set) × (part (occurs set) ≡ true))
 
+-- The products of a target come straight from its graph, with no decision diagram. (Words that ask for prime
+-- implicants by `--zbdd` are refused.)
+abbrev pub is_by_graph : Algorithm → Mode → Bool
+is_by_graph Zbdd CutSets = true
+is_by_graph Zbdd Primes = false
+is_by_graph Bdd CutSets = false
+is_by_graph Bdd Primes = false
+
 -- the products of which the members of a family are tails, by the way that the settings ask for
 abbrev pub IsSource : Algorithm → Mode → Analysis → Target → List ℕ → Type 0
-IsSource Zbdd mode analysis target = IsPartProduct analysis.expanded target analysis.settings.limit_order
+IsSource Zbdd CutSets analysis target = IsPartProduct analysis.expanded target analysis.settings.limit_order
+IsSource Zbdd Primes analysis target =
+    IsPrimeOfCofactors (ranked_truth analysis.expanded target) analysis.settings.limit_order
 IsSource Bdd CutSets analysis target =
     IsCutOfCofactor (ranked_truth analysis.expanded target) analysis.settings.limit_order
 IsSource Bdd Primes analysis target =
@@ -53,14 +63,14 @@ pub record IsCofactorOfPart (expanded : Expanded) (target : Target) (var : ℕ) 
   pub is_part : IsPart expanded target part
   pub cofactors : IsCofactorConjunction part var g
 
--- The analysis whose products come by way of the decision diagram: as those of every run do, whichever algorithm its
--- words ask for.
-abbrev pub by_diagram : Analysis → Analysis
-by_diagram analysis = record analysis { settings = record analysis.settings { algorithm = Bdd } }
+-- a decision diagram comes from a part, where products come by way of one
+pub record IsDiagramOrigin (analysis : Analysis) (target : Target) (var : ℕ) (g : Truth) : Type 0 where
+  pub by_diagram : is_by_graph analysis.settings.algorithm analysis.settings.mode ≡ false
+  pub of_part : IsCofactorOfPart analysis.expanded target var g
 
 -- a node of a kind, with a variable and a reading, has its origin in a target
 abbrev pub Origin : Analysis → Target → Kind → ℕ → Reading → Type 0
-Origin analysis target node.Bdd var r = IsCofactorOfPart analysis.expanded target var r.as_truth
+Origin analysis target node.Bdd var r = IsDiagramOrigin analysis target var r.as_truth
 Origin analysis target node.Zbdd var r = AreTailsOf (IsSourceOf analysis target) node.Zbdd var r
 
 -- in one of some targets

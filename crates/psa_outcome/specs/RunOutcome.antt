@@ -15,7 +15,7 @@ use Rattle.psa_outcome.specs.declared.status.Status.{Status}
 use Rattle.psa_outcome.specs.declared.status.Status.TheVariants.{Done, BadModel, BadWords, ReadFault, WriteFault, NodeLimit, OutOfMemory}
 use Rattle.psa_outcome.specs.Causes.{names_of, Analysed, IsBadModel, IsUnread}
 use Rattle.psa_outcome.specs.Inputs.{IsFirstFault, IsAnalysis}
-use Rattle.psa_outcome.specs.Origins.{Origin, AllFrom, AtMost, by_diagram}
+use Rattle.psa_outcome.specs.Origins.{Origin, AllFrom, AtMost}
 use Rattle.psa_outcome.specs.Runs.{Run, ReadRose, WriteRose, NoFaultRose, all_targets, Reported, ReportedPart, ReportedFirst, IsOwnTable}
 use Rattle.psa_model.specs.Report.{Analysis}
 
@@ -52,7 +52,7 @@ out_of_memory_line = codes "scram: out of memory\n"
 -- out grew by the report, and with a target, where more is asked than to validate, the table is the run's own
 pub record IsFinished (run : Run) (analysis : Analysis) : Type 0 where
   pub reported : Reported analysis run.before run.after
-  pub own_table : analysis.settings.validate ≡ false → (all_targets analysis ≡ [] → ⊥) → IsOwnTable (by_diagram analysis) run.table
+  pub own_table : analysis.settings.validate ≡ false → (all_targets analysis ≡ [] → ⊥) → IsOwnTable analysis run.table
 
 pub record DoneRow (settings : Settings) (run : Run) (line : List ℕ) : Type 0 where
   pub silent : line ≡ []
@@ -94,8 +94,8 @@ pub record IsStopped (analysis : Analysis) (number : ℕ) (table : Table) (tripl
   pub behind : List Target
   pub targets : all_targets analysis ≡ earlier ++ target ∷ behind
   pub place : suc (length earlier) ≡ number
-  pub nodes : AllFrom (by_diagram analysis) (earlier ++ target ∷ []) table
-  pub from_target : Origin (by_diagram analysis) target triple.kind triple.var (node_reading table.nodes triple)
+  pub nodes : AllFrom analysis (earlier ++ target ∷ []) table
+  pub from_target : Origin analysis target triple.kind triple.var (node_reading table.nodes triple)
   pub reported : ReportedFirst analysis (length earlier) before after
 
 pub record NodeLimitRow (settings : Settings) (run : Run) (number : ℕ) (line : List ℕ) : Type 0 where
@@ -150,7 +150,7 @@ writes_nothing OutOfMemory = false
 -- no diagram is made where the model is only checked; else no more readings have an origin than the limit allows
 abbrev pub IsWithinLimit : Settings → Analysis → Type 0
 IsWithinLimit settings analysis =
-    (settings.validate ≡ true) ⊎ IfSome settings.node_limit (λ limit. AtMost limit (by_diagram analysis) (all_targets analysis))
+    (settings.validate ≡ true) ⊎ IfSome settings.node_limit (λ limit. AtMost limit analysis (all_targets analysis))
 
 -- the files are told, and have a first fault
 abbrev pub HasFault : Settings → Run → Type 0

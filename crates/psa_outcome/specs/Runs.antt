@@ -6,7 +6,6 @@ use Rattle.psa_nodes.specs.declared.node.Node.{Node}
 use Rattle.psa_nodes.specs.declared.node.Kind.TheVariants as node
 use Rattle.psa_nodes.specs.Readings.{reading, node_at, stands}
 use Rattle.psa_nodes.specs.Table.{Table}
-use Rattle.psa_model.specs.declared.settings.Algorithm.TheVariants.{Zbdd}
 use Rattle.psa_model.specs.declared.settings.Settings.{Settings}
 use Rattle.psa_model.specs.declared.targets.Target.{Target}
 use Rattle.psa_model.specs.PathTargets.{targets_of}
@@ -15,7 +14,7 @@ use Rattle.psa_ports.specs.Sink.{AppendsPrefix}
 use Rattle.psa_outcome.specs.Brackets.{IsBracketed}
 use Rattle.psa_outcome.specs.Causes.{told_of}
 use Rattle.psa_outcome.specs.Inputs.{Told}
-use Rattle.psa_outcome.specs.Origins.{AllFrom}
+use Rattle.psa_outcome.specs.Origins.{AllFrom, is_by_graph}
 use Rattle.psa_model.specs.Report.{Analysis, IsReport, IsProductOf}
 
 pub record Run : Type 0 where
@@ -94,10 +93,10 @@ HasProducts analysis table target =
     (id : ℕ) × (stands node.Zbdd 0 table.nodes id ≡ true)
     × ((product : List ℕ) → ((reading table.nodes id).as_family product ≡ true) ↔ IsProductOf analysis target product)
 
--- Each node has its origin in some target, and the products of each target stand in the table; by `--zbdd` there is no
--- decision diagram.
+-- Each node has its origin in some target, and the products of each target stand in the table; where they come straight
+-- from the graph, as by `--zbdd`, there is no decision diagram.
 pub record IsOwnTable (analysis : Analysis) (table : Table) : Type 0 where
   pub from : AllFrom analysis (all_targets analysis) table
   pub products : All (HasProducts analysis table) (all_targets analysis)
-  pub families :
-      analysis.settings.algorithm ≡ Zbdd → (id : ℕ) (n : Node) → node_at table.nodes id ≡ Some n → n.kind ≡ node.Zbdd
+  pub families : is_by_graph analysis.settings.algorithm analysis.settings.mode ≡ true
+      → (id : ℕ) (n : Node) → node_at table.nodes id ≡ Some n → n.kind ≡ node.Zbdd

@@ -1,9 +1,8 @@
 -- The nodes of connectives by those of their arguments.
-use Rattle.std.proofs.Common.{◌≡◌, ◌<◌, ◌≤◌, ◌+◌, ℕ, zero, suc, Bool, true, false, ◌==◌, List, [], ◌∷◌, ◌++◌, Some, cond, length, map, take, get_or, nat_le, not, ◌&&◌, ◌||◌, refl, sym, ap, ◌∙◌, subst, arith}
+use Rattle.std.proofs.Common.{◌≡◌, ◌<◌, ◌≤◌, ◌+◌, ℕ, zero, suc, Bool, true, false, ◌==◌, List, [], ◌∷◌, ◌++◌, Some, cond, length, map, drop, get_or, nat_le, not, ◌&&◌, ◌||◌, refl, sym, ap, ◌∙◌, subst, arith}
 use Rattle.std.proofs.lemmas.Bool.Decides.{nat_tests}
-use Rattle.std.proofs.lemmas.List.{take_all, map-append, length-map}
-use Rattle.std.proofs.lemmas.List.Folds.{list_any-append, list_all-append}
-use Rattle.std.specs.List.{slice_get, list_all, list_any}
+use Rattle.std.proofs.lemmas.List.{drop_all, length-map}
+use Rattle.std.specs.List.{slice_get, list_all}
 use Rattle.psa_model.specs.declared.formula.Formula.{Formula}
 use Rattle.psa_model.specs.Formulas.{count_true, of_one, of_two, is_same, truth_of_connective}
 use Rattle.psa_model.specs.Parts.{Truth, IsSimplePart, between, formula, argument, at_least, opposite, truth_over}
@@ -17,8 +16,8 @@ use Rattle.psa_prep.specs.Lowering.{world_of, houses_of, both_signs}
 use Rattle.psa_prep.specs.Nodes.{nodes_of, joins}
 use Rattle.psa_prep.specs.Pairs.{Reads, Stands, swapped, swapped_pair, constant_pair}
 use Rattle.psa_prep.specs.Sound.{formula_truth, AreParts, IsSound, Made, JoinsPairs}
-use Rattle.psa_prep.proofs.EventLemmas.{between-take}
-use Rattle.psa_prep.proofs.ListLemmas.{at-place, take-next}
+use Rattle.psa_prep.proofs.EventLemmas.{between-drop}
+use Rattle.psa_prep.proofs.ListLemmas.{at-place, drop-next}
 use Rattle.psa_graph.specs.declared.graph.GraphNode.{GraphNode}
 use Rattle.psa_prep.proofs.PlaceLemmas.{grown-then, grown-length}
 use Rattle.psa_prep.proofs.SoundLemmas.{simple-parts, joined-parts, made-then, made-as, made-swapped, made-constant, reads-grown, reads-swapped, reads-any}
@@ -44,13 +43,13 @@ argument-part context operands builder signs_of place f are at =
     formula context.target.now (houses_of context) f
     (argument context.target.now (houses_of context) operands.operator operands.min operands.max operands.arguments.now place f are.meets at)
 
--- at least so many of the arguments before a place
-pub count-part : (context : Context) (operands : Operands) (builder : Builder) (signs_of : ℕ → Signs) (k i : ℕ) → AreOperands context operands builder signs_of → IsSimplePart context.expanded.now context.target.now (λ s. nat_le k (count_true (map (λ f. truth_over context.expanded.now context.target.now (houses_of context) f s) (between 0 i operands.arguments.now))))
+-- at least so many of the arguments from a place on
+pub count-part : (context : Context) (operands : Operands) (builder : Builder) (signs_of : ℕ → Signs) (k i : ℕ) → AreOperands context operands builder signs_of → IsSimplePart context.expanded.now context.target.now (λ s. nat_le k (count_true (map (λ f. truth_over context.expanded.now context.target.now (houses_of context) f s) (between i (length operands.arguments.now) operands.arguments.now))))
 count-part context operands builder signs_of k i are =
-    at_least context.target.now (houses_of context) operands.operator operands.min operands.max operands.arguments.now k 0 i are.meets
+    at_least context.target.now (houses_of context) operands.operator operands.min operands.max operands.arguments.now k i (length operands.arguments.now) are.meets
 
-pub count-same : (context : Context) (operands : Operands) (k i : ℕ) (s : ℕ → Bool) → nat_le k (count_true (truths context s (take i operands.arguments.now))) ≡ nat_le k (count_true (map (λ f. truth_over context.expanded.now context.target.now (houses_of context) f s) (between 0 i operands.arguments.now)))
-count-same context operands k i s = ap (λ fs. nat_le k (count_true (truths context s fs))) (sym (between-take i operands.arguments.now))
+pub count-same : (context : Context) (operands : Operands) (k i : ℕ) (s : ℕ → Bool) → nat_le k (count_true (truths context s (drop i operands.arguments.now))) ≡ nat_le k (count_true (map (λ f. truth_over context.expanded.now context.target.now (houses_of context) f s) (between i (length operands.arguments.now) operands.arguments.now)))
+count-same context operands k i s = ap (λ fs. nat_le k (count_true (truths context s fs))) (sym (between-drop i operands.arguments.now))
 
 -- ---- the pair of an argument
 
@@ -79,26 +78,15 @@ get-or-is (y ∷ ys) zero x e = cc
 get-or-is (y ∷ ys) (suc i) x e = get-or-is ys i x e
 
 -- the truths of one argument more
-pub truths-next : (context : Context) (s : ℕ → Bool) (arguments : List Formula) (i : ℕ) (f : Formula) → slice_get arguments i ≡ Some f → truths context s (take (i + 1) arguments) ≡ truths context s (take i arguments) ++ (formula_truth (world_of context) (houses_of context) f s ∷ [])
+pub truths-next : (context : Context) (s : ℕ → Bool) (arguments : List Formula) (i : ℕ) (f : Formula) → slice_get arguments i ≡ Some f → truths context s (drop i arguments) ≡ formula_truth (world_of context) (houses_of context) f s ∷ truths context s (drop (i + 1) arguments)
 truths-next context s arguments i f at =
-    ap (truths context s) (take-next arguments i f (get-within arguments i f at) (get-or-is arguments i f at))
-    ∙ map-append (λ g. formula_truth (world_of context) (houses_of context) g s) (take i arguments) (f ∷ [])
+    ap (truths context s) (drop-next arguments i f (get-within arguments i f at) (get-or-is arguments i f at))
 
 -- ---- all, or some
 
-and-end : (a b : Bool) → (a && (b && true)) ≡ (a && b)
-and-end true true = refl
-and-end true false = refl
-and-end false b = refl
-
-or-end : (a b : Bool) → (a || (b || false)) ≡ (a || b)
-or-end true b = refl
-or-end false true = refl
-or-end false false = refl
-
-gathers-push : (all : Bool) (values : List Bool) (b : Bool) → gathers all (values ++ (b ∷ [])) ≡ joins all (gathers all values) b
-gathers-push true values b = list_all-append (λ v. v) values (b ∷ []) ∙ and-end (list_all (λ v. v) values) b
-gathers-push false values b = list_any-append (λ v. v) values (b ∷ []) ∙ or-end (list_any (λ v. v) values) b
+gathers-next : (all : Bool) (b : Bool) (values : List Bool) → gathers all (b ∷ values) ≡ joins all b (gathers all values)
+gathers-next true b values = refl
+gathers-next false b values = refl
 
 count-below : (values : List Bool) → count_true values ≤ length values
 count-below [] = omega arith
@@ -126,40 +114,36 @@ gathers-count false [] = le-not 1 0 (omega arith)
 gathers-count false (true ∷ values) = le-one (count_true values)
 gathers-count false (false ∷ values) = gathers-count false values
 
-gather-parts : (context : Context) (operands : Operands) (builder : Builder) (signs_of : ℕ → Signs) (all : Bool) (i : ℕ) → AreOperands context operands builder signs_of → AreParts (world_of context) (λ s. gathers all (truths context s (take i operands.arguments.now)))
+gather-parts : (context : Context) (operands : Operands) (builder : Builder) (signs_of : ℕ → Signs) (all : Bool) (i : ℕ) → AreOperands context operands builder signs_of → AreParts (world_of context) (λ s. gathers all (truths context s (drop i operands.arguments.now)))
 gather-parts context operands builder signs_of all i are =
-    simple-parts (world_of context) _ _ (count-part context operands builder signs_of (cond all (length (take i operands.arguments.now)) 1) i are)
-    (λ s. gathers-count all (truths context s (take i operands.arguments.now))
-    ∙ ap (λ n. nat_le (cond all n 1) (count_true (truths context s (take i operands.arguments.now)))) (length-map (take i operands.arguments.now) (λ f. formula_truth (world_of context) (houses_of context) f s))
-    ∙ count-same context operands (cond all (length (take i operands.arguments.now)) 1) i s)
+    simple-parts (world_of context) _ _ (count-part context operands builder signs_of (cond all (length (drop i operands.arguments.now)) 1) i are)
+    (λ s. gathers-count all (truths context s (drop i operands.arguments.now))
+    ∙ ap (λ n. nat_le (cond all n 1) (count_true (truths context s (drop i operands.arguments.now)))) (length-map (drop i operands.arguments.now) (λ f. formula_truth (world_of context) (houses_of context) f s))
+    ∙ count-same context operands (cond all (length (drop i operands.arguments.now)) 1) i s)
 
--- what was gathered of the arguments before a place
+-- what was gathered of the arguments from a place on
 abbrev pub GatheredSome : Context → Operands → Signs → Bool → ℕ → Builder → Builder → Pair → Type 0
-GatheredSome context operands signs all i = Made (world_of context) signs (λ s. gathers all (truths context s (take i operands.arguments.now)))
+GatheredSome context operands signs all i = Made (world_of context) signs (λ s. gathers all (truths context s (drop i operands.arguments.now)))
 
 gathers-none : (all : Bool) → gathers all [] ≡ all
 gathers-none true = refl
 gathers-none false = refl
 
-pub gather-start : (context : Context) (operands : Operands) (signs : Signs) (all : Bool) (builder : Builder) → IsSound (world_of context) builder → GatheredSome context operands signs all 0 builder builder (constant_pair all)
-gather-start context operands signs all builder sound = made-constant (world_of context) signs _ builder all sound (λ s. gathers-none all)
+pub gather-start : (context : Context) (operands : Operands) (signs : Signs) (all : Bool) (i : ℕ) (builder : Builder) → AreOperands context operands builder (λ place. signs) → length operands.pairs.now ≤ i → IsSound (world_of context) builder → GatheredSome context operands signs all i builder builder (constant_pair all)
+gather-start context operands signs all i builder are past sound =
+    let size = are.size in
+    made-constant (world_of context) signs _ builder all sound
+    (λ s. ap (λ fs. gathers all (truths context s fs)) (drop_all i operands.arguments.now (omega arith)) ∙ gathers-none all)
 
-pub gather-more : (context : Context) (operands : Operands) (signs : Signs) (all : Bool) (i : ℕ) (start now next : Builder) (pair operand result : Pair) → AreOperands context operands start (λ place. signs) → i < length operands.pairs.now → operand ≡ get_or operands.pairs.now i operand → GatheredSome context operands signs all i start now pair → JoinsPairs signs all pair operand now next result → GatheredSome context operands signs all (i + 1) start next result
+pub gather-more : (context : Context) (operands : Operands) (signs : Signs) (all : Bool) (i : ℕ) (start now next : Builder) (pair operand result : Pair) → AreOperands context operands start (λ place. signs) → i < length operands.pairs.now → operand ≡ get_or operands.pairs.now i operand → GatheredSome context operands signs all (i + 1) start now pair → JoinsPairs signs all operand pair now next result → GatheredSome context operands signs all i start next result
 gather-more context operands signs all i start now next pair operand result are inside is so_far joins_them =
     let found = argument-at context operands start (λ place. signs) i are inside in
     let there : slice_get operands.pairs.now i ≡ Some operand = get-is operands.pairs.now i operand inside ∙ ap Some (sym is) in
+    let reads_operand = operand-reads context operands signs start now (λ place. signs) i operand found.0 are so_far.grown found.1 there refl in
     made-then (world_of context) signs _ start now next result so_far.grown
-    (joins_them (world_of context) (λ s. gathers all (truths context s (take i operands.arguments.now))) (formula_truth (world_of context) (houses_of context) found.0)
-    (λ s. gathers all (truths context s (take (i + 1) operands.arguments.now))) so_far.sound so_far.reads
-    (operand-reads context operands signs start now (λ place. signs) i operand found.0 are so_far.grown found.1 there refl)
-    (λ s. ap (gathers all) (truths-next context s operands.arguments.now i found.0 found.1) ∙ gathers-push all (truths context s (take i operands.arguments.now)) (formula_truth (world_of context) (houses_of context) found.0 s))
-    (gather-parts context operands start (λ place. signs) all (i + 1) are))
-
-pub gather-end : (context : Context) (operands : Operands) (signs : Signs) (all : Bool) (i : ℕ) (start now : Builder) (pair : Pair) → AreOperands context operands start (λ place. signs) → length operands.pairs.now ≤ i → GatheredSome context operands signs all i start now pair → MakesOf context operands (gathers all) signs start now pair
-gather-end context operands signs all i start now pair are past made =
-    let size = are.size in
-    let all_of : take i operands.arguments.now ≡ operands.arguments.now = take_all i operands.arguments.now (omega arith) in
-    made-as (world_of context) signs _ _ start now pair (λ s. ap (λ fs. gathers all (truths context s fs)) all_of) made
+    (joins_them (world_of context) (formula_truth (world_of context) (houses_of context) found.0) (λ s. gathers all (truths context s (drop (i + 1) operands.arguments.now))) (λ s. gathers all (truths context s (drop i operands.arguments.now))) so_far.sound reads_operand so_far.reads
+    (λ s. ap (gathers all) (truths-next context s operands.arguments.now i found.0 found.1) ∙ gathers-next all (formula_truth (world_of context) (houses_of context) found.0 s) (truths context s (drop (i + 1) operands.arguments.now)))
+    (gather-parts context operands start (λ place. signs) all i are))
 
 -- a pair of the arguments stands
 pub operand-stands : (context : Context) (operands : Operands) (start now : Builder) (signs_of : ℕ → Signs) (i : ℕ) (operand : Pair) → AreOperands context operands start signs_of → i < length operands.pairs.now → operand ≡ get_or operands.pairs.now i operand → (more : List _) × (nodes_of now ≡ more ++ nodes_of start) → Stands (nodes_of now) operand

@@ -1,8 +1,7 @@
 -- The nodes of basic events and of their expanded events.
-use Rattle.std.proofs.Common.{inl, inr, ◌≡◌, ◌<◌, ◌≤◌, ◌+◌, ◌-◌, ℕ, suc, Bool, true, false, List, [], ◌∷◌, Some, None, cond, length, take, get_or, not, ◌&&◌, ◌||◌, refl, sym, ap, ◌∙◌, arith}
+use Rattle.std.proofs.Common.{inl, inr, ◌≡◌, ◌<◌, ◌≤◌, ◌+◌, ◌-◌, ℕ, suc, Bool, true, false, List, [], ◌∷◌, Some, None, cond, length, take, drop, get_or, not, ◌&&◌, refl, sym, ap, ◌∙◌, arith}
 use Rattle.std.proofs.lemmas.Bool.Decides.{eqb_tells}
-use Rattle.std.proofs.lemmas.List.{take_all}
-use Rattle.std.proofs.lemmas.List.Folds.{list_any-append}
+use Rattle.std.proofs.lemmas.List.{drop_all, take_rest}
 use Rattle.std.specs.List.{list_any}
 use Rattle.psa_graph.specs.Truths.{literal_truth}
 use Rattle.psa_logic.specs.Products.{literal_number, holds_at, is_positive, rank_of}
@@ -22,7 +21,7 @@ use Rattle.psa_prep.specs.Nodes.{nodes_of, Placed}
 use Rattle.psa_prep.specs.Pairs.{constant_pair}
 use Rattle.psa_prep.specs.Sound.{World, formula_truth, AreParts, IsSound, Made, JoinsPairs}
 use Rattle.psa_prep.proofs.FormulaLemmas.{over-basic}
-use Rattle.psa_prep.proofs.ListLemmas.{take-next}
+use Rattle.psa_prep.proofs.ListLemmas.{drop-next}
 use Rattle.psa_prep.proofs.NodeLemmas.{truth-grown}
 use Rattle.psa_prep.proofs.PlaceLemmas.{grown-length, grown-then}
 use Rattle.psa_prep.proofs.SoundLemmas.{sound-placed, placed-grown, simple-parts, made-constant, made-then, made-as, reads-grown}
@@ -91,40 +90,36 @@ pub event-missing : (w : World) (signs : Signs) (event : ℕ) (builder : Builder
 event-missing w signs event builder sound missing =
     made-constant w signs _ builder false sound (λ s. rank-missing s event 0 (ranks_of w.expanded w.target) missing)
 
--- some of the events before a place
+-- some of the events from a place on
 abbrev pub some_of : World → List ℕ → ℕ → (ℕ → Bool) → Bool
-some_of w events i s = list_any (occurs_by_rank s 0 (ranks_of w.expanded w.target)) (take i events)
+some_of w events i s = list_any (occurs_by_rank s 0 (ranks_of w.expanded w.target)) (drop i events)
 
 pub between-take : {A : Type 0} (i : ℕ) (xs : List A) → between 0 i xs ≡ take i xs
 between-take i xs = let none : i - 0 ≡ i = omega arith in ap (λ n. take n xs) none
 
+pub between-drop : {A : Type 0} (i : ℕ) (xs : List A) → between i (length xs) xs ≡ drop i xs
+between-drop i xs = take_rest xs i
+
 some-parts : (w : World) (houses : List Bool) (id : EventId) (events : List ℕ) (i : ℕ) → Meets w.expanded w.target houses (variant.Basic id) → events ≡ events_of w.expanded id.0 → AreParts w (some_of w events i)
 some-parts w houses id events i meets are =
-    simple-parts w _ (some_of w events i) (some_event w.target houses id 0 i meets)
-    (λ s. ap (λ es. list_any (occurs_by_rank s 0 (ranks_of w.expanded w.target)) es) (ap (take i) are ∙ sym (between-take i (events_of w.expanded id.0))))
-
-or-end : (a b : Bool) → (a || (b || false)) ≡ (a || b)
-or-end true b = refl
-or-end false true = refl
-or-end false false = refl
+    simple-parts w _ (some_of w events i) (some_event w.target houses id i (length (events_of w.expanded id.0)) meets)
+    (λ s. ap (λ es. list_any (occurs_by_rank s 0 (ranks_of w.expanded w.target)) es) (ap (drop i) are ∙ sym (between-drop i (events_of w.expanded id.0))))
 
 -- no event yet
-pub some-start : (w : World) (signs : Signs) (events : List ℕ) (builder : Builder) → IsSound w builder → Made w signs (some_of w events 0) builder builder (constant_pair false)
-some-start w signs events builder sound = made-constant w signs _ builder false sound (λ s. refl)
+pub some-start : (w : World) (signs : Signs) (events : List ℕ) (i : ℕ) (builder : Builder) → length events ≤ i → IsSound w builder → Made w signs (some_of w events i) builder builder (constant_pair false)
+some-start w signs events i builder past sound = made-constant w signs _ builder false sound (λ s. ap (list_any (occurs_by_rank s 0 (ranks_of w.expanded w.target))) (drop_all i events past))
 
 -- one event more
-pub some-more : (w : World) (houses : List Bool) (signs : Signs) (id : EventId) (events : List ℕ) (i event : ℕ) (start before mid now : Builder) (pair single result : Pair) → Meets w.expanded w.target houses (variant.Basic id) → events ≡ events_of w.expanded id.0 → i < length events → event ≡ get_or events i event → Made w signs (some_of w events i) start before pair → Made w signs (λ s. occurs_by_rank s 0 (ranks_of w.expanded w.target) event) before mid single → JoinsPairs signs false pair single mid now result → Made w signs (some_of w events (i + 1)) start now result
+pub some-more : (w : World) (houses : List Bool) (signs : Signs) (id : EventId) (events : List ℕ) (i event : ℕ) (start before mid now : Builder) (pair single result : Pair) → Meets w.expanded w.target houses (variant.Basic id) → events ≡ events_of w.expanded id.0 → i < length events → event ≡ get_or events i event → Made w signs (some_of w events (i + 1)) start before pair → Made w signs (λ s. occurs_by_rank s 0 (ranks_of w.expanded w.target) event) before mid single → JoinsPairs signs false single pair mid now result → Made w signs (some_of w events i) start now result
 some-more w houses signs id events i event start before mid now pair single result meets are inside is so_far made joins_them =
     made-then w signs _ start mid now result (grown-then (nodes_of start) (nodes_of before) (nodes_of mid) so_far.grown made.grown)
-    (joins_them w (some_of w events i) (λ s. occurs_by_rank s 0 (ranks_of w.expanded w.target) event) (some_of w events (i + 1)) made.sound
-    (reads-grown signs _ (nodes_of before) (nodes_of mid) pair made.grown so_far.reads) made.reads
-    (λ s. ap (list_any (occurs_by_rank s 0 (ranks_of w.expanded w.target))) (take-next events i event inside is)
-    ∙ list_any-append (occurs_by_rank s 0 (ranks_of w.expanded w.target)) (take i events) (event ∷ [])
-    ∙ or-end (some_of w events i s) (occurs_by_rank s 0 (ranks_of w.expanded w.target) event))
-    (some-parts w houses id events (i + 1) meets are))
+    (joins_them w (λ s. occurs_by_rank s 0 (ranks_of w.expanded w.target) event) (some_of w events (i + 1)) (some_of w events i) made.sound made.reads
+    (reads-grown signs _ (nodes_of before) (nodes_of mid) pair made.grown so_far.reads)
+    (λ s. ap (list_any (occurs_by_rank s 0 (ranks_of w.expanded w.target))) (drop-next events i event inside is))
+    (some-parts w houses id events i meets are))
 
 -- all events
-pub some-end : (w : World) (houses : List Bool) (signs : Signs) (id : EventId) (events : List ℕ) (i : ℕ) (start now : Builder) (pair : Pair) → events ≡ events_of w.expanded id.0 → length events ≤ i → Made w signs (some_of w events i) start now pair → Made w signs (formula_truth w houses (variant.Basic id)) start now pair
-some-end w houses signs id events i start now pair are past made =
+pub some-end : (w : World) (houses : List Bool) (signs : Signs) (id : EventId) (events : List ℕ) (start now : Builder) (pair : Pair) → events ≡ events_of w.expanded id.0 → Made w signs (some_of w events 0) start now pair → Made w signs (formula_truth w houses (variant.Basic id)) start now pair
+some-end w houses signs id events start now pair are made =
     made-as w signs _ _ start now pair
-    (λ s. ap (list_any (occurs_by_rank s 0 (ranks_of w.expanded w.target))) (take_all i events past ∙ are) ∙ sym (over-basic w houses id s)) made
+    (λ s. ap (list_any (occurs_by_rank s 0 (ranks_of w.expanded w.target))) are ∙ sym (over-basic w houses id s)) made

@@ -1,7 +1,7 @@
 -- What stands in a list at a place.
-use Rattle.std.proofs.Common.{◌≡◌, ◌<◌, ◌+◌, ℕ, suc, zero, Bool, true, List, [], ◌∷◌, ◌++◌, Some, length, take, get_or, refl, ap, sym, ◌∙◌, subst, cond, eqb, ne_eqb, Option, None, arith}
+use Rattle.std.proofs.Common.{◌≡◌, ◌<◌, ◌+◌, ℕ, suc, zero, Bool, true, List, [], ◌∷◌, ◌++◌, Some, length, take, drop, get_or, refl, ap, sym, ◌∙◌, subst, cond, eqb, ne_eqb, Option, None, arith}
 use Rattle.std.specs.List.{slice_get, list_all, flat_map}
-use Rattle.std.proofs.lemmas.List.{append-nil, append_assoc, take_more, get_or_default}
+use Rattle.std.proofs.lemmas.List.{append-nil, append_assoc, take_more, drop_more, get_or_default}
 use lib.Dec.{eqb-suc-suc}
 use Rattle.psa_model.proofs.Levels.{and-left, and-right, and-both}
 
@@ -20,6 +20,10 @@ all-at p (y ∷ ys) (suc i) x h l is = all-at p ys i x (and-right _ _ h) (omega 
 -- the items before a place, and the one at it
 pub take-next : {A : Type 0} (xs : List A) (i : ℕ) (x : A) → i < length xs → x ≡ get_or xs i x → take (i + 1) xs ≡ take i xs ++ (x ∷ [])
 take-next xs i x inside is = take_more xs i x inside ∙ ap (λ y. take i xs ++ (y ∷ [])) (sym is)
+
+-- the items from a place on
+pub drop-next : {A : Type 0} (xs : List A) (i : ℕ) (x : A) → i < length xs → x ≡ get_or xs i x → drop i xs ≡ x ∷ drop (i + 1) xs
+drop-next xs i x inside is = drop_more xs i x inside ∙ ap (λ y. y ∷ drop (i + 1) xs) (sym is)
 
 -- the lists of one more item come last
 pub flat-push : {A B : Type 0} (f : A → List B) (xs : List A) (x : A) → flat_map f (xs ++ (x ∷ [])) ≡ flat_map f xs ++ f x

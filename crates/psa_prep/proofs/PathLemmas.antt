@@ -1,7 +1,7 @@
 -- The nodes of sequences, by their paths and what these collected.
 use Rattle.std.proofs.Common.{inl, inr, ◌⊎◌, true≢false, ◌≡◌, ◌<◌, ◌≤◌, ◌+◌, ℕ, Bool, true, false, List, [], ◌∷◌, ◌++◌, Some, length, take, drop, get_or, nat_lt, ◌&&◌, ◌||◌, refl, sym, ap, ◌∙◌, subst, arith, append_assoc}
 use Rattle.std.proofs.lemmas.Bool.Decides.{nat_tests, leb_tells}
-use Rattle.std.proofs.lemmas.List.{take_all, drop_more, drop_all, append-nil}
+use Rattle.std.proofs.lemmas.List.{take_all, drop_all, append-nil}
 use Rattle.std.proofs.lemmas.List.Folds.{list_any-append, list_all-append}
 use Rattle.std.proofs.Math.Seq.{take-append_seam}
 use Rattle.std.specs.List.{slice_get, list_all, list_any}
@@ -31,7 +31,7 @@ use Rattle.psa_prep.specs.States.{AreEarlier, IsSet}
 use Rattle.psa_prep.specs.Paths.{task_world, yes_signs, IsStarted, ArePaths, IsPath, PathSoFar, Stepped, MadeAt, path_truth, paths_truth}
 use Rattle.psa_prep.proofs.ConnectiveLemmas.{get-is}
 use Rattle.psa_prep.proofs.EventLemmas.{between-take}
-use Rattle.psa_prep.proofs.ListLemmas.{take-next, all-at}
+use Rattle.psa_prep.proofs.ListLemmas.{take-next, drop-next, all-at}
 use Rattle.psa_prep.proofs.PlaceLemmas.{grown-self, grown-then, grown-length}
 use Rattle.psa_prep.proofs.SoundLemmas.{simple-parts, reads-constant, reads-grown, reads-as}
 use Rattle.psa_prep.proofs.StateLemmas.{houses-grown, houses-none}
@@ -78,9 +78,6 @@ path-start task path settings builder started = record {
   within = omega arith;
   started = started;
 }
-
-drop-next : (path : List PathStep) (i : ℕ) (step : PathStep) → i < length path → step ≡ get_or path i step → drop i path ≡ step ∷ drop (i + 1) path
-drop-next path i step inside is = drop_more path i step inside ∙ ap (λ s. s ∷ drop (i + 1) path) (sym is)
 
 -- the step at a place of a path stands
 pub step-at : (task : Task) (path : List PathStep) (i : ℕ) (step : PathStep) → IsPath task path → i < length path → step ≡ get_or path i step → step_stands task.expanded.now.model step ≡ true

@@ -70,7 +70,8 @@ fn none_of(
     Ok(pair.swapped())
 }
 
-/// The conjunction, or the disjunction, of the arguments.
+/// The conjunction, or the disjunction, of the arguments. They are joined from the last to the first: ranks
+/// ascend from the left, so the diagram of the arguments from a place on stands in that of one more.
 fn gather(
     builder: &mut Builder,
     context: &Context,
@@ -84,8 +85,8 @@ fn gather(
         builder.old builder.new) }
 {
     let mut pair = Pair::constant(both);
-    for operand in operands.pairs {
-        pair = join_pair(builder, signs, both, pair, *operand)?;
+    for place in (0..operands.pairs.len()).rev() {
+        pair = join_pair(builder, signs, both, operands.pairs[place], pair)?;
     }
     Ok(pair)
 }

@@ -1,7 +1,7 @@
-ghost use Rattle.std.specs.Prelude.{◌≡◌, ◌<◌, ◌≤◌, ◌+◌, ◌-◌, ◌&&◌, ◌^◌, length, nat_le, IfOk};
+ghost use Rattle.std.specs.Prelude.{◌≡◌, ◌<◌, ◌≤◌, ◌+◌, ◌&&◌, ◌^◌, length, nat_le, IfOk};
 ghost use Rattle.psa_model.specs.Formulas.{count_true};
 ghost use Rattle.psa_prep.specs.Connectives.{AreOperands, MakesOf, IsPartly};
-ghost use Rattle.psa_prep.specs.Counting.{IsRow, MakesRow, MakesCount, ReadsCount, first_pairs};
+ghost use Rattle.psa_prep.specs.Counting.{IsRow, MakesRow, MakesCount, first_pairs};
 ghost use Rattle.psa_prep.specs.Lowering.{world_of, both_signs};
 ghost use Rattle.psa_prep.specs.Sound.{IsSound};
 
@@ -41,8 +41,9 @@ pub fn cardinality(
     join_pair(builder, signs, true, low, high.swapped())
 }
 
-/// At least `bound` of the arguments. The work and the nodes are in proportion to the arguments times
-/// the bound.
+/// At least `bound` of the arguments, by rows from the last argument to the first: ranks ascend from the
+/// left, so the diagrams of a row stand in those of the row before its place. The work and the nodes are
+/// in proportion to the arguments times the bound.
 pub fn at_least(
     builder: &mut Builder,
     context: &Context,
@@ -57,7 +58,7 @@ pub fn at_least(
 {
     let bound = bound as usize;
     let mut row = first_row(context.alloc, bound)?;
-    for place in 0..operands.pairs.len() {
+    for place in (0..operands.pairs.len()).rev() {
         row = next_row(builder, context, operands, signs, place, row.as_slice())?;
     }
     match at(row.as_slice(), bound) {
@@ -78,7 +79,7 @@ fn first_row(alloc: Global, bound: usize) -> Result<Vec<Pair>, OutOfMemory>
     Ok(row)
 }
 
-/// The row of the arguments before a place, with the one at the place.
+/// The row of the arguments after a place, with the one at the place.
 fn next_row(
     builder: &mut Builder,
     context: &Context,
@@ -89,32 +90,24 @@ fn next_row(
 ) -> Result<Vec<Pair>, OutOfMemory>
     requires place { place < length operands.now.pairs.now }
     requires operands { AreOperands context.now operands.now builder.old (λ i. signs) }
-    requires row { IsRow context.now operands.now signs place builder.old row.now }
+    requires row { IsRow context.now operands.now signs (length row.now) (place + 1)
+        builder.old row.now }
     requires some { 0 < length row.now }
     requires sound { IsSound (world_of context.now) builder.old }
-    ensures { IfOk result (λ next. MakesRow context.now operands.now signs (place + 1)
+    ensures { IfOk result (λ next. MakesRow context.now operands.now signs (length row.now) place
         (length row.now) builder.old builder.new next.items) }
 {
     let mut next = Vec::with_capacity(context.alloc, row.len())?;
     next.push(Pair::constant(true))?;
     for count in 1..row.len() {
-        let here = next_count(
-            builder,
-            context,
-            operands,
-            signs,
-            place,
-            count,
-            row[count - 1],
-            row[count],
-        )?;
+        let here = next_count(builder, context, operands, signs, place, count, row)?;
         next.push(here)?;
     }
     Ok(next)
 }
 
-/// At least `count` of the arguments up to a place: the one at it and one less of those before, or as
-/// many of those before.
+/// At least `count` of the arguments from a place on: the one at it and one less of those after, or as
+/// many of those after. What the arguments before the place are too few for is not made.
 fn next_count(
     builder: &mut Builder,
     context: &Context,
@@ -122,18 +115,21 @@ fn next_count(
     signs: Signs,
     place: usize,
     count: usize,
-    less: Pair,
-    same: Pair,
+    row: &[Pair],
 ) -> Result<Pair, OutOfMemory>
     requires place { place < length operands.now.pairs.now }
-    requires count { 0 < count }
+    requires some { 0 < count }
+    requires count { count < length row.now }
     requires operands { AreOperands context.now operands.now builder.old (λ i. signs) }
-    requires less { ReadsCount context.now operands.now signs place builder.old (count - 1) less }
-    requires same { ReadsCount context.now operands.now signs place builder.old count same }
+    requires row { IsRow context.now operands.now signs (length row.now) (place + 1)
+        builder.old row.now }
     requires sound { IsSound (world_of context.now) builder.old }
-    ensures { IfOk result (MakesCount context.now operands.now signs (place + 1) count
+    ensures { IfOk result (MakesCount context.now operands.now signs (length row.now) place count
         builder.old builder.new) }
 {
-    let with = join_pair(builder, signs, true, operands.pairs[place], less)?;
-    join_pair(builder, signs, false, with, same)
+    if count + place + 1 < row.len() {
+        return Ok(row[count]);
+    }
+    let with = join_pair(builder, signs, true, operands.pairs[place], row[count - 1])?;
+    join_pair(builder, signs, false, with, row[count])
 }

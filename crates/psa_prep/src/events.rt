@@ -10,7 +10,8 @@ use crate::pairs::{Pair, Signs, join_pair};
 use psa_model::EventId;
 use psa_text::OutOfMemory;
 
-/// The nodes of a basic event: it occurs where one of its expanded events does.
+/// The nodes of a basic event: it occurs where one of its expanded events does. They are joined from the
+/// last to the first, as arguments are.
 pub fn lower_basic(
     builder: &mut Builder,
     context: &Context,
@@ -25,9 +26,10 @@ pub fn lower_basic(
     ensures { IfOk result (Makes context.now (variant.Basic id) signs builder.old builder.new) }
 {
     let mut pair = Pair::constant(false);
-    for event in context.index.get(id) {
-        let literal = lower_event(builder, context, *event, signs)?;
-        pair = join_pair(builder, signs, false, pair, literal)?;
+    let events = context.index.get(id);
+    for place in (0..events.len()).rev() {
+        let literal = lower_event(builder, context, events[place], signs)?;
+        pair = join_pair(builder, signs, false, literal, pair)?;
     }
     Ok(pair)
 }

@@ -9,7 +9,7 @@ use Rattle.psa_text.specs.declared.tree.Element.{Element}
 use Rattle.psa_text.specs.Tree.{depth}
 use Rattle.psa_text.specs.TreeSize.{elements_in}
 use Rattle.psa_model.specs.Drafts.{IsDraft}
-use Rattle.psa_words.specs.declared.limits.TheConstants.{MAX_FILES}
+use Rattle.psa_model.specs.declared.limits.TheConstants.{MAX_FILES}
 use Rattle.psa_elements.specs.ShapeFaults.{shape_fault}
 use Rattle.psa_elements.specs.DraftReading.{draft_of}
 use Rattle.psa_reader.proofs.PlacesApart.{references-apart, definitions-apart, draft-few}

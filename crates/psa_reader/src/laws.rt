@@ -7,7 +7,7 @@ ghost use Rattle.psa_text.specs.declared.limits.TheConstants.{MAX_DEPTH, MAX_ELE
 ghost use Rattle.psa_text.specs.declared.tree.Element.{Element};
 ghost use Rattle.psa_text.specs.Tree.{depth};
 ghost use Rattle.psa_text.specs.TreeSize.{elements_in};
-ghost use Rattle.psa_words.specs.declared.limits.TheConstants.{MAX_FILES};
+ghost use Rattle.psa_model.specs.declared.limits.TheConstants.{MAX_FILES};
 
 /// What files say whose elements have no fault of shape is a draft that is promised, where there are
 /// at most `MAX_FILES` files, each of at most `MAX_ELEMENTS` elements and at most `MAX_DEPTH` deep:

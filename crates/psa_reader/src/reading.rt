@@ -6,7 +6,7 @@ ghost use Rattle.psa_shape.specs.FoundFaults.{Tells};
 ghost use Rattle.psa_text.specs.declared.limits.TheConstants.{MAX_DEPTH, MAX_ELEMENTS};
 ghost use Rattle.psa_text.specs.Tree.{depth};
 ghost use Rattle.psa_text.specs.TreeSize.{elements_in};
-ghost use Rattle.psa_words.specs.declared.limits.TheConstants.{MAX_FILES};
+ghost use Rattle.psa_model.specs.declared.limits.TheConstants.{MAX_FILES};
 
 use crate::ReadError;
 use psa_drafts::draft_of_documents;

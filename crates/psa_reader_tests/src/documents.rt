@@ -1,12 +1,45 @@
-ghost use Rattle.std.specs.Prelude.{◌≤◌, All, IfOk, length};
+ghost use Rattle.std.specs.Prelude.{◌≤◌, All, IfOk, OnOk, length};
 ghost use Rattle.psa_reader_tests.specs.Sizes.{IsSmall};
-ghost use Rattle.psa_words.specs.declared.limits.TheConstants.{MAX_FILES};
+ghost use Rattle.psa_model.specs.declared.limits.TheConstants.{MAX_FILES};
 
-use crate::outlines::push_draft;
-use psa_model::{Draft, FaultKind, ModelFault};
-use psa_reader::{ReadError, read_model};
-use psa_text::{Document, Items, OutOfMemory, Scanner, TextError};
+use crate::lines::put;
+use psa_model::MAX_FILES;
+use psa_text::{Document, Items, Scanner, TextError};
 use std::alloc::Global;
+
+/// A stroke stands for the end of a line.
+fn put_piece(out: &mut String, piece: &str) {
+    for line in piece.split_inclusive('|') {
+        match line.strip_suffix('|') {
+            Some(line) => {
+                put(out, line);
+                put(out, "\n");
+            }
+            None => put(out, line),
+        }
+    }
+}
+
+/// `3 PIECE]REST` is the piece three times and the rest. What has no bracket is a rest alone.
+fn put_part(out: &mut String, part: &str) {
+    let (repeated, rest) = part.split_once(']').unwrap_or(("", part));
+    let (count, piece) = repeated.split_once(' ').unwrap_or(("", ""));
+    for _ in 0..count.parse::<u32>().unwrap_or(0) {
+        put_piece(out, piece);
+    }
+    put_piece(out, rest);
+}
+
+/// The text of a file of a row, with what stands around it.
+fn text_of(alloc: Global, front: &str, file: &str, back: &str) -> String {
+    let mut text = String::new(alloc);
+    put(&mut text, front);
+    for part in file.split('[') {
+        put_part(&mut text, part);
+    }
+    put(&mut text, back);
+    text
+}
 
 /// The tree of a text.
 fn document(alloc: Global, text: &str) -> Result<Document, TextError>
@@ -19,81 +52,37 @@ fn document(alloc: Global, text: &str) -> Result<Document, TextError>
     }
 }
 
-/// The trees of some texts.
-fn documents(alloc: Global, texts: &[&str]) -> Result<Items<Document>, TextError>
-    requires { length texts.now ≤ MAX_FILES }
+/// The tree of one more text, where there are not too many; an empty text is none.
+fn add(docs: &mut Items<Document>, alloc: Global, text: &str) -> Result<(), TextError>
+    requires few_before { length docs.old ≤ MAX_FILES }
+    requires small_before { All IsSmall docs.old }
+    ensures few { OnOk result (length docs.new ≤ MAX_FILES) }
+    ensures small { OnOk result (All IsSmall docs.new) }
+{
+    if text.is_empty() {
+        return Ok(());
+    }
+    let document = document(alloc, text)?;
+    if docs.len() >= MAX_FILES || docs.push(document).is_err() {
+        return Err(TextError::Memory);
+    }
+    Ok(())
+}
+
+/// The trees of files, between which `^` stands, each with what stands around it.
+pub fn documents(
+    alloc: Global,
+    front: &str,
+    files: &str,
+    back: &str,
+) -> Result<Items<Document>, TextError>
     ensures few { IfOk result (λ docs. length docs ≤ MAX_FILES) }
     ensures small { IfOk result (All IsSmall) }
 {
     let mut docs = Items::new(alloc);
-    for text in texts {
-        let document = document(alloc, text)?;
-        if docs.push(document).is_err() {
-            return Err(TextError::Memory);
-        }
+    for file in files.split('^') {
+        let text = text_of(alloc, front, file, back);
+        add(&mut docs, alloc, text.as_str())?;
     }
     Ok(docs)
-}
-
-/// The draft of some texts as lines, one for each definition, or their first fault.
-pub fn draft(alloc: Global, texts: &[&str]) -> Result<String, OutOfMemory>
-    requires { length texts.now ≤ MAX_FILES }
-{
-    let mut out = String::new(alloc);
-    match documents(alloc, texts) {
-        Ok(docs) => push_drafted(&mut out, read_model(alloc, &docs))?,
-        Err(_) => out.push_str("no tree")?,
-    }
-    Ok(out)
-}
-
-fn push_drafted(out: &mut String, reading: Result<Draft, ReadError>) -> Result<(), OutOfMemory> {
-    match reading {
-        Ok(draft) => push_draft(out, &draft),
-        Err(ReadError::Fault(fault)) => push_fault(out, &fault),
-        Err(ReadError::Memory) => out.push_str("no memory"),
-    }
-}
-
-/// The first fault of shape of some texts, or `none`.
-pub fn first_fault(alloc: Global, texts: &[&str]) -> Result<String, OutOfMemory>
-    requires { length texts.now ≤ MAX_FILES }
-{
-    let mut out = String::new(alloc);
-    match documents(alloc, texts) {
-        Ok(docs) => push_first_fault(&mut out, read_model(alloc, &docs))?,
-        Err(_) => out.push_str("no tree")?,
-    }
-    Ok(out)
-}
-
-fn push_first_fault(
-    out: &mut String,
-    reading: Result<Draft, ReadError>,
-) -> Result<(), OutOfMemory> {
-    match reading {
-        Ok(_) => out.push_str("none"),
-        Err(ReadError::Fault(fault)) => push_fault(out, &fault),
-        Err(ReadError::Memory) => out.push_str("no memory"),
-    }
-}
-
-/// A fault as its file and line, its kind and the name that it tells.
-fn push_fault(out: &mut String, fault: &ModelFault) -> Result<(), OutOfMemory> {
-    let kind = match fault.kind {
-        FaultKind::UnknownElement => "unknown element",
-        FaultKind::BadAttribute => "bad attribute",
-        FaultKind::BadNumber => "bad number",
-        FaultKind::BadName => "bad name",
-        FaultKind::BadShape => "bad shape",
-        _ => "another fault",
-    };
-    write!(
-        out,
-        "{}:{}: {} {}",
-        fault.file,
-        fault.line,
-        kind,
-        fault.name.as_str()
-    )
 }

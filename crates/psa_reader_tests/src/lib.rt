@@ -8,8 +8,14 @@ mod documents;
 #[cfg(test)]
 mod drafts;
 #[cfg(test)]
+mod lines;
+#[cfg(test)]
+mod order;
+#[cfg(test)]
 mod outlines;
 #[cfg(test)]
 mod refused;
 #[cfg(test)]
-mod shapes;
+mod rows;
+#[cfg(test)]
+mod tests;

@@ -1,36 +1,43 @@
+use crate::lines::{put, put_number};
 use psa_model::{
     Connective, DefinitionKind, Draft, DraftBody, DraftBranch, DraftBranchEnd, DraftDefinition,
     DraftExpression, DraftFactor, DraftFormula, DraftGroup, DraftInstruction, DraftReference,
-    DraftTest, EventKind, ExpressionOperator, GroupModel, Place,
+    DraftTest, EventKind, ExpressionOperator, FaultKind, GroupModel, ModelFault, Place,
 };
-use psa_text::OutOfMemory;
 
 /// A draft as lines, one for each definition: where it begins (its file, line and number of elements
 /// before it), its kind and name, the names around it, whether it is private, and its body.
-pub fn push_draft(out: &mut String, draft: &Draft) -> Result<(), OutOfMemory> {
+pub fn put_draft(out: &mut String, draft: &Draft) {
     for definition in draft.definitions.as_slice() {
-        push_definition(out, definition)?;
-        out.push('\n')?;
+        put_definition(out, definition);
+        put(out, "\n");
     }
-    Ok(())
 }
 
-fn push_definition(out: &mut String, definition: &DraftDefinition) -> Result<(), OutOfMemory> {
-    push_position(out, definition.place, definition.tag)?;
-    out.push_str(kind_word(definition.kind))?;
-    out.push_str(definition.name.as_str())?;
+fn put_definition(out: &mut String, definition: &DraftDefinition) {
+    put_position(out, definition.place, definition.tag);
+    put(out, kind_word(definition.kind));
+    put(out, definition.name.as_str());
     for name in definition.container.as_slice() {
-        out.push_str(" in ")?;
-        out.push_str(name.as_str())?;
+        put(out, " in ");
+        put(out, name.as_str());
     }
     if definition.private {
-        out.push_str(" private")?;
+        put(out, " private");
     }
-    push_body(out, &definition.body)
+    put_body(out, &definition.body)
 }
 
-fn push_position(out: &mut String, place: Place, tag: u32) -> Result<(), OutOfMemory> {
-    write!(out, "{}:{}#{}", place.file, place.line, tag)
+fn truth_word(truth: bool) -> &'static str {
+    if truth { "true" } else { "false" }
+}
+
+fn put_position(out: &mut String, place: Place, tag: u32) {
+    put_number(out, &place.file);
+    put(out, ":");
+    put_number(out, &place.line);
+    put(out, "#");
+    put_number(out, &tag);
 }
 
 fn kind_word(kind: DefinitionKind) -> &'static str {
@@ -51,66 +58,72 @@ fn kind_word(kind: DefinitionKind) -> &'static str {
     }
 }
 
-fn push_body(out: &mut String, body: &DraftBody) -> Result<(), OutOfMemory> {
+fn put_body(out: &mut String, body: &DraftBody) {
     match body {
-        DraftBody::Nothing => Ok(()),
+        DraftBody::Nothing => (),
         DraftBody::Formula(formula) => {
-            out.push_str(" formula ")?;
-            push_formula(out, formula)
+            put(out, " formula ");
+            put_formula(out, formula)
         }
-        DraftBody::Value(None) => out.push_str(" no value"),
+        DraftBody::Value(None) => put(out, " no value"),
         DraftBody::Value(Some(expression)) => {
-            out.push_str(" value ")?;
-            push_expression(out, expression)
+            put(out, " value ");
+            put_expression(out, expression)
         }
-        DraftBody::State(state) => write!(out, " state {}", *state),
-        DraftBody::Group(group) => push_group(out, group),
-        DraftBody::Start(None) => out.push_str(" no start"),
-        DraftBody::Start(Some(tree)) => push_named(out, " (start ", tree),
+        DraftBody::State(state) => {
+            put(out, " state ");
+            put(out, truth_word(*state));
+        }
+        DraftBody::Group(group) => put_group(out, group),
+        DraftBody::Start(None) => put(out, " no start"),
+        DraftBody::Start(Some(tree)) => put_named(out, " (start ", tree),
         DraftBody::Steps(instructions, link) => {
-            out.push_str(" steps")?;
-            push_instructions(out, instructions.as_slice())?;
+            put(out, " steps");
+            put_instructions(out, instructions.as_slice());
             match link {
-                Some(tree) => push_named(out, " (link ", tree),
-                None => Ok(()),
+                Some(tree) => put_named(out, " (link ", tree),
+                None => (),
             }
         }
         DraftBody::Walk(branch) => {
-            out.push_str(" walk")?;
-            push_branch(out, branch)
+            put(out, " walk");
+            put_branch(out, branch)
         }
     }
 }
 
 /// A reference in parentheses, behind a word.
-fn push_named(out: &mut String, word: &str, reference: &DraftReference) -> Result<(), OutOfMemory> {
-    out.push_str(word)?;
-    push_reference(out, reference)?;
-    out.push(')')
+fn put_named(out: &mut String, word: &str, reference: &DraftReference) {
+    put(out, word);
+    put_reference(out, reference);
+    put(out, ")")
 }
 
-fn push_reference(out: &mut String, reference: &DraftReference) -> Result<(), OutOfMemory> {
-    out.push_str(reference.name.as_str())?;
-    out.push('@')?;
-    push_position(out, reference.place, reference.tag)
+fn put_reference(out: &mut String, reference: &DraftReference) {
+    put(out, reference.name.as_str());
+    put(out, "@");
+    put_position(out, reference.place, reference.tag)
 }
 
-fn push_formula(out: &mut String, formula: &DraftFormula) -> Result<(), OutOfMemory> {
+fn put_formula(out: &mut String, formula: &DraftFormula) {
     match formula {
-        DraftFormula::Event(kind, reference) => push_named(out, event_word(*kind), reference),
-        DraftFormula::Constant(value) => write!(out, "{}", *value),
+        DraftFormula::Event(kind, reference) => put_named(out, event_word(*kind), reference),
+        DraftFormula::Constant(value) => put(out, truth_word(*value)),
         DraftFormula::Connective {
             operator,
             min,
             max,
             arguments,
         } => {
-            write!(out, "({} {}-{}", connective_word(*operator), *min, *max)?;
+            put(out, connective_word(*operator));
+            put_number(out, min);
+            put(out, "-");
+            put_number(out, max);
             for argument in arguments.as_slice() {
-                out.push(' ')?;
-                push_formula(out, argument)?;
+                put(out, " ");
+                put_formula(out, argument);
             }
-            out.push(')')
+            put(out, ")")
         }
     }
 }
@@ -126,37 +139,39 @@ fn event_word(kind: EventKind) -> &'static str {
 
 fn connective_word(operator: Connective) -> &'static str {
     match operator {
-        Connective::And => "and",
-        Connective::Or => "or",
-        Connective::Not => "not",
-        Connective::Xor => "xor",
-        Connective::Iff => "iff",
-        Connective::Nand => "nand",
-        Connective::Nor => "nor",
-        Connective::Imply => "imply",
-        Connective::Atleast => "atleast",
-        Connective::Cardinality => "cardinality",
+        Connective::And => "(and ",
+        Connective::Or => "(or ",
+        Connective::Not => "(not ",
+        Connective::Xor => "(xor ",
+        Connective::Iff => "(iff ",
+        Connective::Nand => "(nand ",
+        Connective::Nor => "(nor ",
+        Connective::Imply => "(imply ",
+        Connective::Atleast => "(atleast ",
+        Connective::Cardinality => "(cardinality ",
     }
 }
 
-fn push_expression(out: &mut String, expression: &DraftExpression) -> Result<(), OutOfMemory> {
+fn put_expression(out: &mut String, expression: &DraftExpression) {
     match expression {
         DraftExpression::Number(number) => {
-            let sign = if number.negative { "-" } else { "" };
-            write!(out, "{}{}e{}", sign, number.digits, number.exponent)
+            put(out, if number.negative { "-" } else { "" });
+            put_number(out, &number.digits);
+            put(out, "e");
+            put_number(out, &number.exponent);
         }
-        DraftExpression::Parameter(reference) => push_named(out, "(parameter ", reference),
-        DraftExpression::MissionTime => out.push_str("mission-time"),
+        DraftExpression::Parameter(reference) => put_named(out, "(parameter ", reference),
+        DraftExpression::MissionTime => put(out, "mission-time"),
         DraftExpression::Operation {
             operator,
             arguments,
         } => {
-            out.push_str(operator_word(*operator))?;
+            put(out, operator_word(*operator));
             for argument in arguments.as_slice() {
-                out.push(' ')?;
-                push_expression(out, argument)?;
+                put(out, " ");
+                put_expression(out, argument);
             }
-            out.push(')')
+            put(out, ")")
         }
     }
 }
@@ -172,121 +187,146 @@ fn operator_word(operator: ExpressionOperator) -> &'static str {
     }
 }
 
-fn push_group(out: &mut String, group: &DraftGroup) -> Result<(), OutOfMemory> {
-    out.push_str(match group.model {
+fn put_group(out: &mut String, group: &DraftGroup) {
+    put(out, model_word(group.model));
+    for member in group.members.as_slice() {
+        put(out, " ");
+        put_reference(out, member);
+    }
+    put(out, ") ");
+    put_expression(out, &group.distribution);
+    put_factors(out, group.factors.as_slice())
+}
+
+fn model_word(model: GroupModel) -> &'static str {
+    match model {
         GroupModel::Beta => " beta (members",
         GroupModel::Mgl => " MGL (members",
         GroupModel::Alpha => " alpha (members",
-    })?;
-    for member in group.members.as_slice() {
-        out.push(' ')?;
-        push_reference(out, member)?;
     }
-    out.push_str(") ")?;
-    push_expression(out, &group.distribution)?;
-    push_factors(out, group.factors.as_slice())
 }
 
-fn push_factors(out: &mut String, factors: &[DraftFactor]) -> Result<(), OutOfMemory> {
+fn put_factors(out: &mut String, factors: &[DraftFactor]) {
     for factor in factors {
         match factor.level {
-            Some(level) => write!(out, " (level {} ", level)?,
-            None => out.push_str(" (no level ")?,
+            Some(level) => {
+                put(out, " (level ");
+                put_number(out, &level);
+                put(out, " ");
+            }
+            None => put(out, " (no level "),
         }
-        push_expression(out, &factor.expression)?;
-        out.push(')')?;
+        put_expression(out, &factor.expression);
+        put(out, ")");
     }
-    Ok(())
 }
 
 /// Instructions, each behind a blank.
 #[cycle(instructions)]
-fn push_instructions(
-    out: &mut String,
-    instructions: &[DraftInstruction],
-) -> Result<(), OutOfMemory> {
+fn put_instructions(out: &mut String, instructions: &[DraftInstruction]) {
     for instruction in instructions {
-        out.push(' ')?;
-        push_instruction(out, instruction)?;
+        put(out, " ");
+        put_instruction(out, instruction);
     }
-    Ok(())
 }
 
 #[cycle(instructions)]
-fn push_instruction(out: &mut String, instruction: &DraftInstruction) -> Result<(), OutOfMemory> {
+fn put_instruction(out: &mut String, instruction: &DraftInstruction) {
     match instruction {
         DraftInstruction::Collect(formula) => {
-            out.push_str("(collect ")?;
-            push_formula(out, formula)?;
+            put(out, "(collect ");
+            put_formula(out, formula);
         }
         DraftInstruction::SetHouse(house, state) => {
-            write!(out, "(set {} ", *state)?;
-            push_reference(out, house)?;
+            put(out, "(set ");
+            put(out, truth_word(*state));
+            put(out, " ");
+            put_reference(out, house);
         }
         DraftInstruction::Rule(rule) => {
-            out.push_str("(rule ")?;
-            push_reference(out, rule)?;
+            put(out, "(rule ");
+            put_reference(out, rule);
         }
         DraftInstruction::Block(instructions) => {
-            out.push_str("(block")?;
-            push_instructions(out, instructions.as_slice())?;
+            put(out, "(block");
+            put_instructions(out, instructions.as_slice());
         }
         DraftInstruction::If(test, first, second) => {
-            out.push_str("(if ")?;
-            push_test(out, test)?;
-            push_instructions(out, first.as_slice())?;
-            out.push_str(" else")?;
-            push_instructions(out, second.as_slice())?;
+            put(out, "(if ");
+            put_test(out, test);
+            put_instructions(out, first.as_slice());
+            put(out, " else");
+            put_instructions(out, second.as_slice());
         }
     }
-    out.push(')')
+    put(out, ")")
 }
 
-fn push_test(out: &mut String, test: &DraftTest) -> Result<(), OutOfMemory> {
+fn put_test(out: &mut String, test: &DraftTest) {
     let tests = match test {
-        DraftTest::Initiating(event) => return push_named(out, "(initiating ", event),
+        DraftTest::Initiating(event) => return put_named(out, "(initiating ", event),
         DraftTest::Functional { name, state } => {
-            out.push_str("(functional ")?;
-            out.push_str(state.as_str())?;
-            return push_named(out, " ", name);
+            put(out, "(functional ");
+            put(out, state.as_str());
+            return put_named(out, " ", name);
         }
         DraftTest::All(tests) => {
-            out.push_str("(all")?;
+            put(out, "(all");
             tests
         }
         DraftTest::Any(tests) => {
-            out.push_str("(any")?;
+            put(out, "(any");
             tests
         }
         DraftTest::Not(tests) => {
-            out.push_str("(not")?;
+            put(out, "(not");
             tests
         }
     };
     for test in tests.as_slice() {
-        out.push(' ')?;
-        push_test(out, test)?;
+        put(out, " ");
+        put_test(out, test);
     }
-    out.push(')')
+    put(out, ")")
 }
 
-fn push_branch(out: &mut String, branch: &DraftBranch) -> Result<(), OutOfMemory> {
-    push_instructions(out, branch.instructions.as_slice())?;
+fn put_branch(out: &mut String, branch: &DraftBranch) {
+    put_instructions(out, branch.instructions.as_slice());
     match &branch.end {
-        DraftBranchEnd::Sequence(sequence) => push_named(out, " (sequence ", sequence),
-        DraftBranchEnd::Branch(branch) => push_named(out, " (branch ", branch),
+        DraftBranchEnd::Sequence(sequence) => put_named(out, " (sequence ", sequence),
+        DraftBranchEnd::Branch(branch) => put_named(out, " (branch ", branch),
         DraftBranchEnd::Fork(functional, paths) => {
-            out.push_str(" (fork ")?;
-            push_reference(out, functional)?;
+            put(out, " (fork ");
+            put_reference(out, functional);
             for path in paths.as_slice() {
-                out.push_str(" (path ")?;
-                push_position(out, path.place, path.tag)?;
-                out.push(' ')?;
-                out.push_str(path.state.as_str())?;
-                push_branch(out, &path.branch)?;
-                out.push(')')?;
+                put(out, " (path ");
+                put_position(out, path.place, path.tag);
+                put(out, " ");
+                put(out, path.state.as_str());
+                put_branch(out, &path.branch);
+                put(out, ")");
             }
-            out.push(')')
+            put(out, ")")
         }
+    }
+}
+
+/// A fault as its file and line, its kind and the name that it tells.
+pub fn put_fault(out: &mut String, fault: &ModelFault) {
+    put_number(out, &fault.file);
+    put(out, ":");
+    put_number(out, &fault.line);
+    put(out, fault_word(fault.kind));
+    put(out, fault.name.as_str());
+}
+
+fn fault_word(kind: FaultKind) -> &'static str {
+    match kind {
+        FaultKind::UnknownElement => ": unknown element ",
+        FaultKind::BadAttribute => ": bad attribute ",
+        FaultKind::BadNumber => ": bad number ",
+        FaultKind::BadName => ": bad name ",
+        FaultKind::BadShape => ": bad shape ",
+        _ => ": another fault ",
     }
 }

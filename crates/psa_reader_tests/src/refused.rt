@@ -1,34 +1,14 @@
-//! Elements with a fault of shape: by the element around them, each with the fault that is told of it.
+//! Elements with a fault of shape, by the elements around them.
 
-/// What stands before elements, the elements with their faults, one a line, and what stands behind them.
-pub type Frame = (&'static str, &'static str, &'static str);
-
-#[rattlefmt::skip]
-pub const REFUSED: [Frame; 12] = [
-    ("", ROOTS, ""),
-    ("<opsa-mef>", IN_ROOT, "</opsa-mef>"),
-    ("<opsa-mef><define-fault-tree name='F'>", IN_CONTAINER, "</define-fault-tree></opsa-mef>"),
-    ("<opsa-mef><define-fault-tree name='F'><define-component name='C'>", IN_CONTAINER, "</define-component></define-fault-tree></opsa-mef>"),
-    ("<opsa-mef><model-data>", IN_MODEL_DATA, "</model-data></opsa-mef>"),
-    ("<opsa-mef><define-CCF-group name='G' model='MGL'>", IN_GROUP, "</define-CCF-group></opsa-mef>"),
-    ("<opsa-mef><define-event-tree name='E'>", IN_EVENT_TREE, "<initial-state><sequence name='S'/></initial-state></define-event-tree></opsa-mef>"),
-    ("<opsa-mef><define-event-tree name='E'><initial-state>", IN_INITIAL_STATE, "</initial-state></define-event-tree></opsa-mef>"),
-    ("<opsa-mef><define-rule name='R'>", IN_RULE, "</define-rule></opsa-mef>"),
-    ("<opsa-mef><define-rule name='R'><if>", TESTS, "<block/></if></define-rule></opsa-mef>"),
-    ("<opsa-mef><define-fault-tree name='F'><define-gate name='g'>", FORMULAS, "</define-gate></define-fault-tree></opsa-mef>"),
-    ("<opsa-mef><model-data><define-parameter name='p'>", EXPRESSIONS, "</define-parameter></model-data></opsa-mef>"),
-];
-
-const ROOTS: &str = "\
+/// Rows, as `wrong_rows` reads them.
+pub const REFUSED: &str = "\
 <opsa/> => unknown element opsa
 <Opsa-Mef/> => unknown element Opsa-Mef
 <label/> => unknown element label
 <define-fault-tree name='F'/> => unknown element define-fault-tree
 <x y='1' y='1'><z/></x> => unknown element x
 <opsa-mef><if/></opsa-mef> => unknown element if
-";
-
-const IN_ROOT: &str = "\
+<opsa-mef> ... </opsa-mef>
 <define-gate name='g'><constant value='true'/></define-gate> => unknown element define-gate
 <define-basic-event name='e'/> => unknown element define-basic-event
 <define-house-event name='h'/> => unknown element define-house-event
@@ -118,9 +98,7 @@ const IN_ROOT: &str = "\
 <define-event-tree name='E'/> => bad shape define-event-tree
 <define-event-tree name='E'><define-sequence name='S'/></define-event-tree> => bad shape define-event-tree
 <define-event-tree name='E'><initial-state name='i'><sequence name='S'/></initial-state></define-event-tree> => bad attribute name
-";
-
-const IN_CONTAINER: &str = "\
+<opsa-mef><define-fault-tree name='F'> ... </define-fault-tree></opsa-mef>
 <define-rule name='R'/> => unknown element define-rule
 <define-event-tree name='E'/> => unknown element define-event-tree
 <define-fault-tree name='E'/> => unknown element define-fault-tree
@@ -176,9 +154,63 @@ const IN_CONTAINER: &str = "\
 <define-parameter name='p'><gate name='g'/></define-parameter> => unknown element gate
 <define-CCF-group name='G' model='x'/> => bad attribute model
 <define-CCF-group name='G' model='MGL'/> => bad shape define-CCF-group
-";
-
-const IN_MODEL_DATA: &str = "\
+<opsa-mef><define-fault-tree name='F'><define-component name='C'> ... </define-component></define-fault-tree></opsa-mef>
+<define-rule name='R'/> => unknown element define-rule
+<define-event-tree name='E'/> => unknown element define-event-tree
+<define-fault-tree name='E'/> => unknown element define-fault-tree
+<define-sequence name='S'/> => unknown element define-sequence
+<model-data/> => unknown element model-data
+<basic-event name='e'/> => unknown element basic-event
+<define-component/> => bad attribute name
+<define-component role='private'/> => bad attribute name
+<define-component name='C' name='C'/> => bad attribute name
+<define-component name='C' role='public' role='public'/> => bad attribute role
+<define-component name='C' role=''/> => bad attribute role
+<define-component name='C' role='Private'/> => bad attribute role
+<define-component name='C' unit='u'/> => bad attribute unit
+<define-component name='C.D'/> => bad name define-component
+<define-component name='C'><model-data/></define-component> => unknown element model-data
+<define-gate><gate name='h'/></define-gate> => bad attribute name
+<define-gate name='g' name='g'><gate name='h'/></define-gate> => bad attribute name
+<define-gate name='g' role='public' role='private'><gate name='h'/></define-gate> => bad attribute role
+<define-gate name='g' role='x'><gate name='h'/></define-gate> => bad attribute role
+<define-gate name='g' unit='u'><gate name='h'/></define-gate> => bad attribute unit
+<define-gate name='F.g'><gate name='h'/></define-gate> => bad name define-gate
+<define-gate name='g'/> => bad shape define-gate
+<define-gate name='g'><label/><attributes/></define-gate> => bad shape define-gate
+<define-gate name='g'><gate name='a'/><gate name='b'/></define-gate> => bad shape define-gate
+<define-gate name='g'><float value='1'/></define-gate> => unknown element float
+<define-gate name='g'><define-gate name='h'/></define-gate> => unknown element define-gate
+<define-basic-event/> => bad attribute name
+<define-basic-event name='e' name='f'/> => bad attribute name
+<define-basic-event name='e' role='private' role='private'/> => bad attribute role
+<define-basic-event name='e' unit='u'/> => bad attribute unit
+<define-basic-event name='e' role='internal'/> => bad attribute role
+<define-basic-event name='e.f'/> => bad name define-basic-event
+<define-basic-event name='e'><float value='1'/><float value='1'/></define-basic-event> => bad shape define-basic-event
+<define-basic-event name='e'><constant value='true'/></define-basic-event> => unknown element constant
+<define-house-event/> => bad attribute name
+<define-house-event name='h' name='h'/> => bad attribute name
+<define-house-event name='h' role='' role='public'/> => bad attribute role
+<define-house-event name='h' role='x'/> => bad attribute role
+<define-house-event name='h' value='true'/> => bad attribute value
+<define-house-event name='h.i'/> => bad name define-house-event
+<define-house-event name='h'><constant value='true'/><constant value='true'/></define-house-event> => bad shape define-house-event
+<define-house-event name='h'><constant/></define-house-event> => bad attribute value
+<define-house-event name='h'><house-event name='i'/></define-house-event> => unknown element house-event
+<define-parameter><int value='1'/></define-parameter> => bad attribute name
+<define-parameter name='p' name='p'><int value='1'/></define-parameter> => bad attribute name
+<define-parameter name='p' role='x'><int value='1'/></define-parameter> => bad attribute role
+<define-parameter name='p' role='public' role='public'/> => bad attribute role
+<define-parameter name='p' unit='u' unit='u'/> => bad attribute unit
+<define-parameter name='p' value='1'/> => bad attribute value
+<define-parameter name='p.q'><int value='1'/></define-parameter> => bad name define-parameter
+<define-parameter name='p'/> => bad shape define-parameter
+<define-parameter name='p'><int value='1'/><int value='1'/></define-parameter> => bad shape define-parameter
+<define-parameter name='p'><gate name='g'/></define-parameter> => unknown element gate
+<define-CCF-group name='G' model='x'/> => bad attribute model
+<define-CCF-group name='G' model='MGL'/> => bad shape define-CCF-group
+<opsa-mef><model-data> ... </model-data></opsa-mef>
 <define-basic-event name='e' role='private'/> => bad attribute role
 <define-house-event name='h' role='private'/> => bad attribute role
 <define-parameter name='p' role='private'><int value='1'/></define-parameter> => bad attribute role
@@ -189,9 +221,7 @@ const IN_MODEL_DATA: &str = "\
 <define-basic-event name='e.f'/> => bad name define-basic-event
 <define-basic-event name='e'><float value='1'/><int value='1'/></define-basic-event> => bad shape define-basic-event
 <define-house-event name='h'><constant value='on'/></define-house-event> => bad attribute value
-";
-
-const IN_GROUP: &str = "\
+<opsa-mef><define-CCF-group name='G' model='MGL'> ... </define-CCF-group></opsa-mef>
 <members><basic-event name='a'/></members> => bad shape define-CCF-group
  => bad shape define-CCF-group
 <distribution><float value='1'/></distribution> => bad shape define-CCF-group
@@ -227,9 +257,7 @@ const IN_GROUP: &str = "\
 <factor level='2.0'/> => bad number level
 <factor level='00002'/> => bad number level
 <factor><label/></factor> => unknown element label
-";
-
-const IN_EVENT_TREE: &str = "\
+<opsa-mef><define-event-tree name='E'> ... <initial-state><sequence name='S'/></initial-state></define-event-tree></opsa-mef>
 <initial-state><sequence name='S'/></initial-state> => bad shape define-event-tree
 <initial-state/> => bad shape initial-state
 <sequence name='S'/> => unknown element sequence
@@ -262,9 +290,7 @@ const IN_EVENT_TREE: &str = "\
 <define-branch name='b'><sequence name='S'/><sequence name='S'/></define-branch> => bad shape define-branch
 <define-branch name='b'><sequence name='S'/><block/></define-branch> => bad shape define-branch
 <define-branch name='b'><event-tree name='E'/></define-branch> => unknown element event-tree
-";
-
-const IN_INITIAL_STATE: &str = "\
+<opsa-mef><define-event-tree name='E'><initial-state> ... </initial-state></define-event-tree></opsa-mef>
 <block/> => bad shape initial-state
  => bad shape initial-state
 <sequence name='S'/><branch name='b'/> => bad shape initial-state
@@ -300,9 +326,7 @@ const IN_INITIAL_STATE: &str = "\
 <fork functional-event='f'><path state='s'><sequence name='S'/><sequence name='S'/></path></fork> => bad shape path
 <fork functional-event='f'><path state='s'><sequence name='S'/><block/></path></fork> => bad shape path
 <fork functional-event='f'><path state='s'><label/><sequence name='S'/></path></fork> => unknown element label
-";
-
-const IN_RULE: &str = "\
+<opsa-mef><define-rule name='R'> ... </define-rule></opsa-mef>
 <sequence name='S'/> => unknown element sequence
 <fork functional-event='f'/> => unknown element fork
 <event-tree name='E'/> => unknown element event-tree
@@ -340,9 +364,7 @@ const IN_RULE: &str = "\
 <if><block/><test-initiating-event name='I'/><block/></if> => bad shape if
 <if><gate name='g'/><block/></if> => unknown element gate
 <if><test-initiating-event name='I'/><label/><block/></if> => unknown element label
-";
-
-const TESTS: &str = "\
+<opsa-mef><define-rule name='R'><if> ... <block/></if></define-rule></opsa-mef>
 <gate name='g'/> => unknown element gate
 <xor/> => unknown element xor
 <test-initiating-event/> => bad attribute name
@@ -369,9 +391,7 @@ const TESTS: &str = "\
 <not/> => bad shape not
 <not><test-initiating-event name='I'/><test-initiating-event name='I'/></not> => bad shape not
 <not><event name='e'/></not> => unknown element event
-";
-
-const FORMULAS: &str = "\
+<opsa-mef><define-fault-tree name='F'><define-gate name='g'> ... </define-gate></define-fault-tree></opsa-mef>
 <if/> => unknown element if
 <test-initiating-event name='I'/> => unknown element test-initiating-event
 <parameter name='p'/> => unknown element parameter
@@ -457,9 +477,7 @@ const FORMULAS: &str = "\
 <cardinality min='0' max='0'/> => bad shape cardinality
 <cardinality min='2' max='1'><gate name='a'/><gate name='b'/></cardinality> => bad shape cardinality
 <cardinality min='1' max='3'><gate name='a'/><gate name='b'/></cardinality> => bad shape cardinality
-";
-
-const EXPRESSIONS: &str = "\
+<opsa-mef><model-data><define-parameter name='p'> ... </define-parameter></model-data></opsa-mef>
 <gate name='g'/> => unknown element gate
 <constant value='true'/> => unknown element constant
 <bool value='true'/> => unknown element bool

@@ -1,16 +1,18 @@
 -- The sections of targets one after another, to the end of the report or to where it stops.
-use Rattle.std.proofs.Common.{◌≡◌, ◌<◌, ◌+◌, ℕ, false, List, [], ◌∷◌, ◌++◌, Option, Some, length, take, drop, refl, sym, ap, subst, ◌∙◌, arith}
+use Rattle.std.proofs.Common.{◌≡◌, ◌<◌, ◌+◌, ℕ, true, false, List, [], ◌∷◌, ◌++◌, Option, Some, length, take, drop, refl, sym, ap, subst, ◌∙◌, arith}
 use Rattle.std.specs.Prelude.{All, Result, Ok, Err}
 use Rattle.std.specs.List.{slice_get}
 use Rattle.std.proofs.lemmas.List.Elements.{All-nil}
 use Rattle.std.proofs.lemmas.Option.{slice_get_within}
 use Rattle.psa_nodes.specs.declared.node.Node.{Node}
-use Rattle.psa_nodes.specs.Readings.{node_at}
+use Rattle.psa_nodes.specs.declared.node.Kind.{Kind}
+use Rattle.psa_nodes.specs.declared.node.Kind.TheVariants as node
+use Rattle.psa_nodes.specs.Readings.{Reading, node_at, reading}
 use Rattle.psa_nodes.specs.Progress.{IsFull}
 use Rattle.psa_nodes.specs.Table.{Table}
 use Rattle.psa_model.specs.declared.targets.Target.{Target}
 use Rattle.psa_model.specs.Report.{Analysis}
-use Rattle.psa_outcome.specs.Origins.{AllFrom, Origin, by_diagram}
+use Rattle.psa_outcome.specs.Origins.{AllFrom, Origin, OriginIn, is_by_graph}
 use Rattle.psa_outcome.specs.Runs.{HasProducts, ReportedFirst, all_targets}
 use Rattle.psa_ports.proofs.RisenCountLemmas.{Rose-within}
 use Rattle.psa_sections.specs.declared.report.ReportError.TheVariants as report
@@ -50,8 +52,8 @@ module _ (analysis : Analysis) (place : ℕ) (target : Target) (first middle las
       of writes = record {
         reported = λ before head.
             section-after analysis place target writes.written.0 before written after shows stands writes.written.1 (so-far.reported before head) writes.written.2;
-        nodes = subst (λ (l : List Target). AllFrom (by_diagram analysis) l last) (sym next)
-            (nodes-after (by_diagram analysis) done target middle last writes.progress so-far.nodes);
+        nodes = subst (λ (l : List Target). AllFrom analysis l last) (sym next)
+            (nodes-after analysis done target middle last writes.progress so-far.nodes);
         products = subst (λ (l : List Target). All (HasProducts analysis last) l) (sym next)
             (products-after analysis middle last writes.progress.nodes done target so-far.products writes.products);
         bounded = writes.progress.bounded so-far.bounded;
@@ -92,7 +94,7 @@ module _ (analysis : Analysis) (place : ℕ) (target : Target) (first middle las
       later = let a = so-far.later in let b = writes.later in omega (arith, a, b);
     }
       where
-        refused : IsFull (Origin (by_diagram analysis) target) 0 last
+        refused : IsFull (Origin analysis target) 0 last
         refused = (writes.full refl).0
 
         stopped : IsFullReport analysis (place + 1) last before after
@@ -106,7 +108,7 @@ module _ (analysis : Analysis) (place : ℕ) (target : Target) (first middle las
             behind = drop (place + 1) (all_targets analysis);
             targets = split-at (all_targets analysis) place target stands;
             place = let e = take-count (all_targets analysis) place target stands in omega (arith, e);
-            nodes = nodes-after (by_diagram analysis) done target middle last writes.progress so-far.nodes;
+            nodes = nodes-after analysis done target middle last writes.progress so-far.nodes;
             from_target = refused.from.origin;
             reported =
                 subst (λ n. ReportedFirst analysis n before after) (sym (take-count (all_targets analysis) place target stands))
@@ -143,6 +145,14 @@ take-all : (xs : List Target) → take (length xs) xs ≡ xs
 take-all [] = refl
 take-all (x ∷ xs) = ap (λ l. x ∷ l) (take-all xs)
 
+-- where products come straight from the graph, no decision diagram has an origin
+family-only : (analysis : Analysis) (targets : List Target) → is_by_graph analysis.settings.algorithm analysis.settings.mode ≡ true → (k : Kind) (v : ℕ) (r : Reading) → OriginIn analysis targets k v r → k ≡ node.Zbdd
+family-only analysis targets by node.Zbdd v r o = refl
+family-only analysis targets by node.Bdd v r (place, target, here, o) = absurd (differ (sym by ∙ o.by_diagram))
+  where
+    differ : true ≡ false → ⊥
+    differ e = cc
+
 -- all targets have their sections
 pub all-sections : (analysis : Analysis) (count : ℕ) (first last : Table) (sooner later : ℕ) (start after before : Option (List ℕ)) → count ≡ length (all_targets analysis) → ReportedFirst analysis 0 before start → HasSections analysis count (first, last) (sooner, later) start after → EndsReport analysis (first, last) (sooner, later) before after (Ok tt)
 all-sections analysis count first last sooner later start after before all head has = record {
@@ -151,9 +161,9 @@ all-sections analysis count first last sooner later start after before all head 
     is_report = all-shown analysis before after whole;
     appended = whole.appended;
     own_table = record {
-      from = subst (λ (l : List Target). AllFrom (by_diagram analysis) l last) every has.nodes;
+      from = subst (λ (l : List Target). AllFrom analysis l last) every has.nodes;
       products = subst (λ (l : List Target). All (HasProducts analysis last) l) every has.products;
-      families = λ e. absurd (cc);
+      families = λ e id n here. family-only analysis (take count (all_targets analysis)) e n.kind n.var (reading last.nodes id) (has.nodes id n here);
     };
   };
   unwritten = λ e. absurd (cc);

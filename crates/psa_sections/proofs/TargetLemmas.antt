@@ -9,7 +9,7 @@ use Rattle.psa_nodes.specs.Progress.{IsCall}
 use Rattle.psa_nodes.specs.Table.{Table}
 use Rattle.psa_model.specs.declared.targets.Target.{Target}
 use Rattle.psa_model.specs.Report.{Analysis}
-use Rattle.psa_outcome.specs.Origins.{Origin, by_diagram}
+use Rattle.psa_outcome.specs.Origins.{Origin}
 use Rattle.psa_outcome.specs.Runs.{HasProducts}
 use Rattle.psa_sections.specs.declared.report.TargetError.{TargetError}
 use Rattle.psa_sections.specs.declared.report.TargetError.TheVariants.{Write}
@@ -23,11 +23,11 @@ turned (Err e) error same = ap Err same
 
 module _ (analysis : Analysis) (target : Target) (before now : Table) where
   -- the node of the products was not made
-  pub unmade : (error : NodeError) (faults : ℕ) (bytes : Option (List ℕ)) (answer : Result (Unit {0}) TargetError) → IsCall (Origin (by_diagram analysis) target) 0 {A = NodeId} before now (Err error) → answer ≡ Err (target_error error) → WritesTarget analysis target (before, now) (faults, faults) bytes bytes answer
+  pub unmade : (error : NodeError) (faults : ℕ) (bytes : Option (List ℕ)) (answer : Result (Unit {0}) TargetError) → IsCall (Origin analysis target) 0 {A = NodeId} before now (Err error) → answer ≡ Err (target_error error) → WritesTarget analysis target (before, now) (faults, faults) bytes bytes answer
   unmade error faults bytes answer call is =
       subst (WritesTarget analysis target (before, now) (faults, faults) bytes bytes) (sym is) (of error call)
     where
-      of : (error : NodeError) → IsCall (Origin (by_diagram analysis) target) 0 {A = NodeId} before now (Err error) → WritesTarget analysis target (before, now) (faults, faults) bytes bytes (Err (target_error error))
+      of : (error : NodeError) → IsCall (Origin analysis target) 0 {A = NodeId} before now (Err error) → WritesTarget analysis target (before, now) (faults, faults) bytes bytes (Err (target_error error))
       of node.Full call = record {
         progress = call.progress;
         later = omega arith;
@@ -47,7 +47,7 @@ module _ (analysis : Analysis) (target : Target) (before now : Table) where
         memory = λ e. refl;
       }
 
-  module _ (id : NodeId) (call : IsCall (Origin (by_diagram analysis) target) 0 {A = NodeId} before now (Ok id)) (products : HasProducts analysis now target) (faults later : ℕ) (bytes after : Option (List ℕ)) where
+  module _ (id : NodeId) (call : IsCall (Origin analysis target) 0 {A = NodeId} before now (Ok id)) (products : HasProducts analysis now target) (faults later : ℕ) (bytes after : Option (List ℕ)) where
     -- the section was written
     pub section-written : {E : Type 0} (result : Result (Unit {0}) E) (answer : Result (Unit {0}) TargetError) → WritesSection {E = E} analysis target bytes after faults later result → result ≡ Ok tt → answer ≡ Ok tt → WritesTarget analysis target (before, now) (faults, later) bytes after answer
     section-written {E} result answer section ok is =

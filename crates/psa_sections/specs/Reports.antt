@@ -7,7 +7,7 @@ use Rattle.psa_nodes.specs.Progress.{Progress, IsFull}
 use Rattle.psa_nodes.specs.Table.{Table, IsRefused}
 use Rattle.psa_model.specs.declared.targets.Target.{Target}
 use Rattle.psa_model.specs.Report.{Analysis, IsReport, IsSection}
-use Rattle.psa_outcome.specs.Origins.{AllFrom, Origin, by_diagram}
+use Rattle.psa_outcome.specs.Origins.{AllFrom, Origin}
 use Rattle.psa_outcome.specs.RunOutcome.{IsBetweenSections, IsStopped}
 use Rattle.psa_outcome.specs.Runs.{HasProducts, IsOwnTable, ReportedFirst, ReportedPart, all_targets}
 use Rattle.psa_ports.specs.Counts.{Rose}
@@ -33,20 +33,20 @@ report_error Memory place = report.Memory
 -- What writing a target's section leaves, with its answer. The new nodes have their origin in the target. Where it is
 -- written, its products stand in the table; where the sink failed, a prefix of it was appended; else nothing was.
 pub record WritesTarget (analysis : Analysis) (target : Target) (tables : Table × Table) (faults : ℕ × ℕ) (before after : Option (List ℕ)) (answer : Result (Unit {0}) TargetError) : Type 0 where
-  pub progress : Progress (Origin (by_diagram analysis) target) 0 tables.0 tables.1
+  pub progress : Progress (Origin analysis target) 0 tables.0 tables.1
   pub later : faults.0 ≤ faults.1
   pub products : OnOk answer (HasProducts analysis tables.1 target)
   pub written : OnOk answer ((text : List ℕ) × IsSection analysis target text × Appends before after text)
   pub unwritten : answer ≡ Err Write
       → Rose faults.0 faults.1 × ((text : List ℕ) × IsSection analysis target text × AppendsPrefix before after text)
-  pub full : answer ≡ Err Full → IsFull (Origin (by_diagram analysis) target) 0 tables.1 × (after ≡ before)
+  pub full : answer ≡ Err Full → IsFull (Origin analysis target) 0 tables.1 × (after ≡ before)
   pub memory : answer ≡ Err Memory → after ≡ before
 
 -- So many first targets have their sections, written behind what out had taken: the nodes have their origin in these
 -- targets, and their products stand in the table.
 pub record HasSections (analysis : Analysis) (count : ℕ) (tables : Table × Table) (faults : ℕ × ℕ) (start now : Option (List ℕ)) : Type 0 where
   pub reported : (before : Option (List ℕ)) → ReportedFirst analysis 0 before start → ReportedFirst analysis count before now
-  pub nodes : AllFrom (by_diagram analysis) (take count (all_targets analysis)) tables.1
+  pub nodes : AllFrom analysis (take count (all_targets analysis)) tables.1
   pub products : All (HasProducts analysis tables.1) (take count (all_targets analysis))
   pub bounded : IsBounded tables.1.nodes
   pub limit : tables.1.limit ≡ tables.0.limit
@@ -57,7 +57,7 @@ pub record HasReport (analysis : Analysis) (table : Table) (before after : Optio
   pub text : List ℕ
   pub is_report : IsReport analysis (all_targets analysis) text
   pub appended : Appends before after text
-  pub own_table : IsOwnTable (by_diagram analysis) table
+  pub own_table : IsOwnTable analysis table
 
 -- a triple was refused at the target with this number, from 1
 pub record IsFullReport (analysis : Analysis) (number : ℕ) (table : Table) (before after : Option (List ℕ)) : Type 0 where

@@ -1,10 +1,3 @@
-pub mod ByteRunLemmas
-pub mod TreeReadingLemmas
-pub mod NestingStateLemmas
-pub mod DepthLemmas
-pub mod SpelledItemLemmas
-pub mod AsciiTextLemmas
-pub mod FirstTextLemmas
 pub mod OneReading
 pub mod TreeSizes
 pub mod OneOutcome

@@ -8,7 +8,7 @@ use Rattle.psa_text.specs.declared.scanner.mark.Mark.{Mark}
 use Rattle.psa_text.specs.declared.scanner.mark.Mark.TheVariants.{FirstByte, SecondByte}
 use Rattle.psa_text.specs.declared.scanner.error.TextFault.{TextFault}
 use Rattle.psa_text.specs.declared.scanner.error.TextKind.TheVariants.{LongFile, BadMarkup, LongToken, BadNesting}
-use Rattle.psa_text.specs.Nesting.{State, at_start}
+use Rattle.psa_text.specs.scanner.Nesting.{State, at_start, nesting_after_item}
 use Rattle.psa_text.specs.TextBytes.{is_name_start, line_after}
 use Rattle.psa_text.specs.TextItems.{Placed, AreItems, IsFront, IsItem}
 use Rattle.psa_text.specs.TextTree.{IsDocument, IsDocumentFront}
@@ -16,7 +16,6 @@ use Rattle.psa_text.specs.TextFaults.{IsMarkFront, one_byte, two_bytes, whole_ma
 use Rattle.psa_text.specs.TextOutcome.{IsRead, tree, inside, at_end}
 use Rattle.psa_text.specs.scanner.Machine.{Lex, Between, Opened, Name, Next, Broken, Within, Whole, next, is_long, is_bad_end, begins_tag}
 use Rattle.psa_text.specs.scanner.View.{judgement_of}
-use Rattle.psa_text.specs.scanner.Nesting.{nesting_after_item}
 use Rattle.psa_text.specs.scanner.State.{Scan, start_scan, scan_after_item, scan_after_judged, scan_after_item_byte, scan_after_at, scan_after, and_then, scan_after_bytes, root_at_end}
 use Rattle.psa_text.proofs.OneReading.{same_items, same_tree}
 use Rattle.psa_text.proofs.scanner.StatesReached.{choose, and_true, Reached, at_between, Went, item_step}

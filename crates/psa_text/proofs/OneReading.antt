@@ -2,7 +2,7 @@
 use Rattle.std.specs.Prelude.{◌≡◌, ℕ, List, Some}
 use Rattle.std.proofs.Common.{sym, ◌∙◌, ap}
 use Rattle.psa_text.specs.declared.tree.Element.{Element}
-use Rattle.psa_text.specs.Nesting.{at_start}
+use Rattle.psa_text.specs.scanner.Nesting.{at_start}
 use Rattle.psa_text.specs.TextItems.{Placed, AreItems}
 use Rattle.psa_text.specs.TextTree.{IsDocument}
 use Rattle.psa_text.specs.TextFaults.{IsTree}

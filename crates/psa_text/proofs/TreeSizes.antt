@@ -5,7 +5,7 @@ use Rattle.std.proofs.Common.{refl, sym, ◌∙◌, ap, subst, arith, append_ass
 use Rattle.std.proofs.lemmas.Bool.Decides.{nat_tests}
 use Rattle.std.proofs.lemmas.List.Sums.{sum_by-append, sum_by_push, sum-map}
 use Rattle.psa_text.specs.declared.tree.Element.{Element, fold-roll-Element}
-use Rattle.psa_text.specs.declared.token.Tag.{Tag}
+use Rattle.psa_text.specs.declared.tag.Tag.{Tag}
 use Rattle.psa_text.specs.declared.scanner.item.Item.{Item}
 use Rattle.psa_text.specs.declared.scanner.item.Item.TheVariants.{Start, Empty, End, Doctype, Text, Comment, Instruction}
 use Rattle.psa_text.specs.declared.scanner.error.TextFault.{TextFault}

@@ -1,10 +1,6 @@
 pub mod NamedBytes
 pub mod Steps
 pub mod Tree
-pub mod Nesting
-pub mod Bytes
-pub mod Reading
-pub mod FirstText
 pub mod TextBytes
 pub mod TextItems
 pub mod TextTree

@@ -5,7 +5,7 @@
 -- The grammar is loose: a name or a value is any bytes of its class here, and a reference may spell any number.
 -- What it lets through is refused by TextFaults.
 use Rattle.std.specs.Prelude.{◌≡◌, ◌≢◌, ℕ, ◌≤◌, Bool, true, false, if◌then◌else◌, ◌==◌, ◌&&◌, List, [], ◌∷◌, ◌++◌, length, drop, Option, Some, None, encode_utf8, codes}
-use Rattle.psa_text.specs.declared.token.Tag.{Tag}
+use Rattle.psa_text.specs.declared.tag.Tag.{Tag}
 use Rattle.psa_text.specs.declared.scanner.item.Item.{Item}
 use Rattle.psa_text.specs.declared.scanner.item.Item.TheVariants.{Start, Empty, End, Doctype, Text, Comment, Instruction}
 use Rattle.psa_text.specs.TextBytes.{AllPass, AreBlanks, IsName, is_blank, is_character, is_quote, is_doctype_byte, is_value_byte, is_digit_of, spaced, number_behind, trimmed, line_after}

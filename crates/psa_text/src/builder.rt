@@ -1,15 +1,30 @@
 ghost use Rattle.std.specs.Prelude.{◌≡◌, [], Some};
+ghost use Rattle.psa_text.specs.declared.builder.StepError.TheVariants.{Memory};
 ghost use Rattle.psa_text.specs.Steps.{Gives};
 ghost use Rattle.psa_text.specs.Tree.{element_of};
-ghost use Rattle.psa_text.specs.scanner.Nesting.{has_begun, in_label, nesting_after_item};
-ghost use Rattle.psa_text.specs.Nesting.{at_start, nesting_after_end, finished_root, is_too_deep, deep_nesting_after, nesting_with, state_of, nesting_after};
+ghost use Rattle.psa_text.specs.scanner.Nesting.{at_start, finished_root, has_begun, in_label, nesting_after_empty, nesting_after_end, nesting_after_item, nesting_after_start, nesting_with, state_of};
 
 use crate::limits::MAX_DEPTH;
 use crate::scanner::bytes::is_blank;
 use crate::scanner::item::Item;
-use crate::token::{StepError, Tag, Token};
-use crate::{Element, Items};
+use crate::tag::Tag;
+use crate::{Element, Items, OutOfMemory};
 use std::alloc::Global;
+
+/// Why a step was not made: the text does not allow it, or memory ran out.
+#[derive(Debug, Drop)]
+pub enum StepError {
+    Refused,
+    Memory,
+}
+
+impl From<OutOfMemory> for StepError {
+    ghost from_gives = { λ _ e. e ≡ Memory };
+
+    fn from(_error: OutOfMemory) -> StepError {
+        StepError::Memory
+    }
+}
 
 /// The tree of a text while its items come: the elements that have begun and not ended, outermost
 /// first, and the root once it has ended.
@@ -32,48 +47,13 @@ impl Builder {
 
     /// Takes the next item, which begins at `line`. Refused: where it does not fit, or where an
     /// element would begin deeper than [`MAX_DEPTH`].
-    pub fn step(&mut self, alloc: Global, token: Token, line: u32) -> Result<(), StepError>
-        ensures { Gives (λ _. state_of self.new) result
-            (nesting_after token line (state_of self.old)) }
-    {
-        if self.is_too_deep(&token) {
-            return Err(StepError::Refused);
-        }
-        self.nest(alloc, token, line)
-    }
-
-    /// Whether the item would begin an element deeper than [`MAX_DEPTH`].
-    pub fn is_too_deep(&self, token: &Token) -> bool
-        ensures { result ≡ is_too_deep token.now (state_of self.now) }
-    {
-        match token {
-            Token::Start(_) | Token::Empty(_) => self.open_elements.len() >= MAX_DEPTH,
-            Token::End(_) | Token::Passed => false,
-        }
-    }
-
-    /// Takes the next item, at any depth. Refused: where it does not fit.
-    pub fn nest(&mut self, alloc: Global, token: Token, line: u32) -> Result<(), StepError>
-        ensures { Gives (λ _. state_of self.new) result
-            (deep_nesting_after token line (state_of self.old)) }
-    {
-        match token {
-            Token::Start(tag) => self.open(alloc, tag, line),
-            Token::Empty(tag) => self.open_and_close(alloc, tag, line),
-            Token::End(name) => self.close(name.as_bytes()),
-            Token::Passed => Ok(()),
-        }
-    }
-
-    /// Takes the next item of a scanned text, which begins at `line`. Refused: where it does not
-    /// fit.
-    pub fn step_item(&mut self, alloc: Global, item: Item, line: u32) -> Result<(), StepError>
+    pub fn step(&mut self, alloc: Global, item: Item, line: u32) -> Result<(), StepError>
         ensures { Gives (λ _. state_of self.new) result
             (nesting_after_item item line (state_of self.old)) }
     {
         match item {
-            Item::Start(tag) => self.step(alloc, Token::Start(tag), line),
-            Item::Empty(tag) => self.step(alloc, Token::Empty(tag), line),
+            Item::Start(tag) => self.open(alloc, tag, line),
+            Item::Empty(tag) => self.open_and_close(alloc, tag, line),
             Item::End(name) => self.close(name.as_bytes()),
             Item::Doctype if self.has_begun() => Err(StepError::Refused),
             Item::Text(byte) if !self.is_in_label() && !is_blank(byte) => Err(StepError::Refused),
@@ -114,9 +94,9 @@ impl Builder {
 
     fn open(&mut self, alloc: Global, tag: Tag, line: u32) -> Result<(), StepError>
         ensures { Gives (λ _. state_of self.new) result
-            (deep_nesting_after (Token.Start tag) line (state_of self.old)) }
+            (nesting_after_start tag line (state_of self.old)) }
     {
-        if self.root.is_some() {
+        if self.open_elements.len() >= MAX_DEPTH || self.root.is_some() {
             return Err(StepError::Refused);
         }
         self.open_elements.push(new_element(alloc, tag, line))?;
@@ -125,9 +105,9 @@ impl Builder {
 
     fn open_and_close(&mut self, alloc: Global, tag: Tag, line: u32) -> Result<(), StepError>
         ensures { Gives (λ _. state_of self.new) result
-            (deep_nesting_after (Token.Empty tag) line (state_of self.old)) }
+            (nesting_after_empty tag line (state_of self.old)) }
     {
-        if self.root.is_some() {
+        if self.open_elements.len() >= MAX_DEPTH || self.root.is_some() {
             return Err(StepError::Refused);
         }
         self.place(new_element(alloc, tag, line))

@@ -2,17 +2,13 @@
 #![tactic(auto)]
 
 mod builder;
-mod bytes;
-mod document;
 pub mod laws;
 pub mod limits;
-mod reader;
 mod scanner;
+mod tag;
 mod text;
-mod token;
 mod tree;
 
-pub use document::first_document;
 pub use scanner::Scanner;
 pub use scanner::error::{TextError, TextFault, TextKind};
 pub use sqlite_items::Items;

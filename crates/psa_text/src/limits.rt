@@ -1,4 +1,4 @@
-//! The limits of a text, and of a first text. (This project's own.)
+//! The limits of a text. (This project's own.)
 
 /// The most bytes of a text.
 pub const MAX_FILE_BYTES: u32 = 67_108_864;
@@ -14,8 +14,3 @@ pub const MAX_VALUE_BYTES: usize = 512;
 pub const MAX_ATTRIBUTES: usize = 32;
 /// The most digits of a reference to a character by its number.
 pub const MAX_REFERENCE_DIGITS: u8 = 8;
-
-/// The most bytes of a first text.
-pub const MAX_FIRST_BYTES: usize = 1_048_576;
-/// The most bytes of a value of a first text.
-pub const MAX_FIRST_VALUE_BYTES: usize = 128;

@@ -4,9 +4,8 @@ ghost use Rattle.psa_text.specs.declared.scanner.error.TextError.{TextError};
 ghost use Rattle.psa_text.specs.declared.scanner.mark.Mark.{Mark};
 ghost use Rattle.psa_text.specs.scanner.Bounds.{IsBounded};
 ghost use Rattle.psa_text.specs.scanner.Machine as machine;
-ghost use Rattle.psa_text.specs.scanner.Nesting.{in_label, nesting_after_item};
+ghost use Rattle.psa_text.specs.scanner.Nesting.{in_label, nesting_after_item, state_of};
 ghost use Rattle.psa_text.specs.scanner.View.{lex_of};
-ghost use Rattle.psa_text.specs.Nesting.{state_of};
 ghost use Rattle.psa_text.specs.TextFaults as faults;
 
 pub mod bytes;
@@ -19,14 +18,13 @@ pub mod place;
 pub mod spans;
 
 use crate::Document;
-use crate::builder::Builder;
+use crate::builder::{Builder, StepError};
 use crate::limits::{MAX_ELEMENTS, MAX_FILE_BYTES};
 use crate::scanner::error::{TextError, TextFault, TextKind};
 use crate::scanner::item::Item;
 use crate::scanner::lexer::{Lexer, TokenError};
 use crate::scanner::mark::Mark;
 use crate::scanner::spans::{behind_blanks, from_first, line_ends};
-use crate::token::StepError;
 use std::alloc::Global;
 
 /// Reads a text in pieces to its tree, or to its first fault. It keeps no earlier byte: beside the
@@ -243,7 +241,7 @@ impl Scanner {
             self.new result }
     {
         let begun = u32::from(item.begins_element());
-        match self.builder.step_item(self.alloc, item, self.start) {
+        match self.builder.step(self.alloc, item, self.start) {
             Ok(()) => {
                 self.pass(byte);
                 self.elements += begun;

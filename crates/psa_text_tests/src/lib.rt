@@ -2,6 +2,4 @@
 #![tactic(auto)]
 
 #[cfg(test)]
-mod first_documents;
-#[cfg(test)]
 mod scanners;

@@ -15,8 +15,8 @@ mod values;
 
 pub use fault::WordsError;
 pub use limits::{
-    DEFAULT_LIMIT_ORDER, DEFAULT_MISSION_TIME, MAX_DIGITS, MAX_FILES, MAX_LIMIT_ORDER,
-    MAX_NODE_LIMIT, MAX_SAMPLE, MIN_SAMPLE,
+    DEFAULT_LIMIT_ORDER, DEFAULT_MISSION_TIME, MAX_DIGITS, MAX_LIMIT_ORDER, MAX_NODE_LIMIT,
+    MAX_SAMPLE, MIN_SAMPLE,
 };
 use psa_model::Settings;
 use std::alloc::Global;

@@ -16,8 +16,5 @@ pub const MIN_SAMPLE: u64 = 2;
 /// The greatest size of the sample model.
 pub const MAX_SAMPLE: u64 = 1000;
 
-/// The most files.
-pub const MAX_FILES: usize = 16;
-
 /// The most digits of a whole number.
 pub const MAX_DIGITS: usize = 13;

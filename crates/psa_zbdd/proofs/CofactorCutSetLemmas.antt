@@ -1,5 +1,5 @@
 -- Minimal cut sets of a side's cofactors are minimal cut sets of the truth's cofactors.
-use Rattle.std.proofs.Common.{◌≡◌, ℕ, ◌+◌, ◌<◌, ◌≤◌, Bool, true, false, List, sym, ◌∙◌, inl, inr, arith}
+use Rattle.std.proofs.Common.{◌≡◌, ℕ, ◌+◌, ◌<◌, ◌≤◌, Bool, false, List, sym, ◌∙◌, inl, inr, arith}
 use Rattle.std.proofs.lemmas.Bool.Decides.{leb_tells}
 use Rattle.psa_logic.specs.Products.{IsCutProduct}
 use Rattle.psa_nodes.specs.Cofactors.{assigned, cofactor, IsCutOfCofactor}

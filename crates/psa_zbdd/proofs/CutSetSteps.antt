@@ -9,7 +9,7 @@ use Rattle.psa_nodes.specs.declared.node.Node.{Node}
 use Rattle.psa_nodes.specs.declared.node.NodeId.{NodeId}
 use Rattle.psa_nodes.specs.declared.node.NodeError.{NodeError}
 use Rattle.psa_nodes.specs.declared.node.Operation.TheVariants.{MinimalOfBdd, Without}
-use Rattle.psa_nodes.specs.declared.node.TheConstants.{MAX_RANKS, MAX_LITERAL_NUMBERS}
+use Rattle.psa_nodes.specs.declared.node.TheConstants.{MAX_RANKS}
 use Rattle.psa_nodes.specs.Cofactors.{IsCutOfCofactor}
 use Rattle.psa_nodes.specs.Readings.{Reading, node_at, truth, has, joined, stands, level, first_literal}
 use Rattle.psa_nodes.specs.Nodes.{AllFit, Grown}

@@ -1,5 +1,5 @@
 -- The cut sets within a limit from those that are remembered for a greater one.
-use Rattle.std.proofs.Common.{◌≡◌, ℕ, zero, suc, ◌+◌, ◌*◌, ◌^◌, ◌<◌, ◌≤◌, true, List, Some, Result, ap, ◌∙◌, arith}
+use Rattle.std.proofs.Common.{◌≡◌, ℕ, zero, suc, ◌+◌, ◌*◌, ◌<◌, ◌≤◌, true, List, Some, Result, ap, ◌∙◌, arith}
 use Rattle.psa_nodes.specs.declared.node.Kind.TheVariants.{Bdd, Zbdd}
 use Rattle.psa_nodes.specs.declared.node.Node.{Node}
 use Rattle.psa_nodes.specs.declared.node.NodeId.{NodeId}

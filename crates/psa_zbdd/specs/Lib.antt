@@ -1,2 +1,4 @@
 pub mod Sides
 pub mod CutSets
+pub mod FamilyProducts
+pub mod GraphFamilies

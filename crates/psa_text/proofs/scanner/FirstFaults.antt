@@ -8,14 +8,13 @@ use Rattle.psa_text.specs.declared.scanner.mark.Mark.{Mark}
 use Rattle.psa_text.specs.declared.scanner.mark.Mark.TheVariants.{Unread, FirstByte, SecondByte, Passed}
 use Rattle.psa_text.specs.declared.scanner.error.TextFault.{TextFault}
 use Rattle.psa_text.specs.declared.scanner.error.TextKind.TheVariants.{LongFile, BadMarkup, LongToken}
-use Rattle.psa_text.specs.Nesting.{State, at_start}
+use Rattle.psa_text.specs.scanner.Nesting.{State, at_start, nesting_after_item}
 use Rattle.psa_text.specs.TextBytes.{AllPass, is_name_start, is_digit_of, digit_of, spaced, line_after}
 use Rattle.psa_text.specs.TextItems.{bytes_of_reference, Placed, AreItems, and_item}
 use Rattle.psa_text.specs.TextTree.{IsDocumentFront}
 use Rattle.psa_text.specs.TextFaults.{IsMarkFront, one_byte, two_bytes, whole_mark, behind_two, behind_one, unmarked, IsWithin, IsLong, long_name, many_attributes, long_value, IsBadEnd, begins_element, element_count, fault, DecidesWithin, many_elements, no_front, bad_end, long_token, bad_nesting, Decides, long_file, broken_at_two, broken_at_three, behind_mark, NoFault, FirstFault}
 use Rattle.psa_text.specs.scanner.Machine.{Inside, Reference, Ampersand, LetterA, Named, NumberSign, Digits, Lex, Between, Opened, Value, Refer, Next, Broken, Within, Whole, with_bytes, next_reference, next_in_reference, next, is_long, is_bad_end, begins_tag}
 use Rattle.psa_text.specs.scanner.View.{judgement_of}
-use Rattle.psa_text.specs.scanner.Nesting.{nesting_after_item}
 use Rattle.psa_text.specs.scanner.State.{Scan, start_scan, line_after_byte, scan_after_item, scan_after_judged, scan_after_item_byte, scan_with_mark, scan_after_at, scan_after, and_then, scan_after_bytes}
 use Rattle.psa_text.proofs.scanner.StatesReached.{choose, equal, and_true, Reached, at_opened, Went, item_step}
 use Rattle.psa_text.proofs.scanner.ItemsRun.{value_at}

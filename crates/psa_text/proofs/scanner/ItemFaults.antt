@@ -3,7 +3,7 @@ use Rattle.std.specs.Prelude.{◌≡◌, ◌≢◌, ℕ, ◌+◌, ◌*◌, ◌�
 use Rattle.std.specs.Str.{is_utf8}
 use Rattle.std.proofs.Common.{refl, ◌∙◌, ap, arith, append_assoc}
 use Rattle.std.proofs.lemmas.Bool.Decides.{nat_tests}
-use Rattle.psa_text.specs.declared.token.Tag.{Tag}
+use Rattle.psa_text.specs.declared.tag.Tag.{Tag}
 use Rattle.psa_text.specs.TextBytes.{AllPass, AreBlanks, IsName, is_name_byte, is_quote, is_digit_of, digit_of, number_behind, trimmed, is_character}
 use Rattle.psa_text.specs.TextItems.{IsReference, is_less, is_greater, is_ampersand, is_quotation, is_apostrophe, is_decimal, is_hexadecimal, IsRaw, no_byte, and_byte, and_reference, IsOpening, IsHead}
 use Rattle.psa_text.specs.TextFaults.{EndsInName, in_tag, in_end_tag, in_attribute, IsLong, long_name, many_attributes, long_value, IsBadEnd, bad_name, bad_value, bad_reference}

@@ -3,7 +3,7 @@ use Rattle.std.specs.Prelude.{◌≡◌, ◌≢◌, ℕ, ◌+◌, ◌*◌, ◌�
 use Rattle.std.proofs.Common.{refl, ◌∙◌, ap, arith, append_assoc, append-nil}
 use Rattle.std.proofs.lemmas.Bool.Decides.{nat_tests}
 use Rattle.std.proofs.lemmas.List.{length-append}
-use Rattle.psa_text.specs.declared.token.Tag.{Tag}
+use Rattle.psa_text.specs.declared.tag.Tag.{Tag}
 use Rattle.psa_text.specs.declared.scanner.item.Item.{Item}
 use Rattle.psa_text.specs.declared.scanner.item.Item.TheVariants.{Start, End, Doctype, Text, Comment, Instruction}
 use Rattle.psa_text.specs.TextBytes.{AllPass, is_blank, AreBlanks, IsName, is_name_start, is_name_byte, is_quote, is_doctype_byte, is_value_byte, is_digit_of, digit_of, spaced, number_behind}

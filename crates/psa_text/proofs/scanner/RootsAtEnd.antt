@@ -4,7 +4,7 @@ use Rattle.std.proofs.Common.{refl, sym, ◌∙◌, ap, subst, append-nil}
 use Rattle.psa_text.specs.declared.tree.Element.{Element}
 use Rattle.psa_text.specs.declared.scanner.error.TextFault.{TextFault}
 use Rattle.psa_text.specs.declared.scanner.error.TextKind.TheVariants.{BadMarkup, BadNesting}
-use Rattle.psa_text.specs.Nesting.{State, at_start, finished_root}
+use Rattle.psa_text.specs.scanner.Nesting.{State, at_start, finished_root}
 use Rattle.psa_text.specs.TextBytes.{line_after}
 use Rattle.psa_text.specs.TextItems.{Placed, AreItems}
 use Rattle.psa_text.specs.TextTree.{IsDocument}

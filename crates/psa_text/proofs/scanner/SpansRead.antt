@@ -6,10 +6,9 @@ use Rattle.std.proofs.Math.Seq.{take-append_seam}
 use Rattle.std.proofs.lemmas.List.Sums.{sum_by-cons}
 use Rattle.psa_text.specs.declared.scanner.mark.Mark.{Mark}
 use Rattle.psa_text.specs.declared.scanner.mark.Mark.TheVariants.{Passed}
-use Rattle.psa_text.specs.Nesting.{State}
+use Rattle.psa_text.specs.scanner.Nesting.{State, in_label}
 use Rattle.psa_text.specs.TextBytes.{AllPass, is_blank}
 use Rattle.psa_text.specs.scanner.Machine.{Lex, Between, InInstruction, InComment, begins_tag}
-use Rattle.psa_text.specs.scanner.Nesting.{in_label}
 use Rattle.psa_text.specs.scanner.View.{Judged, IsBad, IsLong, On, Done, judgement}
 use Rattle.psa_text.specs.scanner.State.{Scan, scan_after, line_after_byte, scan_after_bytes}
 use Rattle.psa_text.specs.scanner.Spans.{IsBehind, ReadsSpan, ReadsWithin, and_within, state_after_within, is_other, is_quiet, line_after_bytes}

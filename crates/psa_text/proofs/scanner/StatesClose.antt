@@ -2,7 +2,7 @@
 use Rattle.std.specs.Prelude.{◌≡◌, ◌≢◌, ℕ, ◌+◌, ◌*◌, ◌<◌, Bool, true, false, if◌then◌else◌, ◌==◌, nat_lt, List, [], ◌∷◌, ◌++◌, length}
 use Rattle.std.proofs.Common.{refl, subst, arith, append_assoc}
 use Rattle.std.proofs.lemmas.Bool.Decides.{nat_tests}
-use Rattle.psa_text.specs.declared.token.Tag.{Tag}
+use Rattle.psa_text.specs.declared.tag.Tag.{Tag}
 use Rattle.psa_text.specs.declared.scanner.item.Item.{Item}
 use Rattle.psa_text.specs.declared.scanner.item.Item.TheVariants.{Start, Empty, End, Doctype, Text, Comment, Instruction}
 use Rattle.psa_text.specs.TextBytes.{digit_of}

@@ -5,15 +5,14 @@ use Rattle.std.specs.Str.{bytes_eq}
 use Rattle.std.proofs.Common.{refl, sym, ◌∙◌, ap, arith, append_assoc, append-nil}
 use Rattle.std.proofs.lemmas.Bool.Decides.{nat_tests}
 use Rattle.psa_text.specs.declared.tree.Element.{Element, out-Element, out-roll-Element}
-use Rattle.psa_text.specs.declared.token.Tag.{Tag}
+use Rattle.psa_text.specs.declared.tag.Tag.{Tag}
 use Rattle.psa_text.specs.declared.scanner.item.Item.{Item}
 use Rattle.psa_text.specs.declared.scanner.item.Item.TheVariants.{Start, Empty, End, Doctype, Text, Comment, Instruction}
 use Rattle.psa_text.specs.Tree.{element_of}
-use Rattle.psa_text.specs.Nesting.{State, at_start, with_child, nesting_with_in, nesting_after_end_in}
+use Rattle.psa_text.specs.scanner.Nesting.{State, at_start, with_child, nesting_with_in, nesting_after_end_in, in_label, is_some_open, nesting_after_item}
 use Rattle.psa_text.specs.TextBytes.{AllPass, is_blank}
 use Rattle.psa_text.specs.TextItems.{Placed}
 use Rattle.psa_text.specs.TextTree.{is_label, is_passed, IsElement, is_empty, is_around, AreElements, no_element, and_passed, and_element, is_before_root, is_behind_root, IsDocument, IsDocumentFront}
-use Rattle.psa_text.specs.scanner.Nesting.{in_label, is_some_open, nesting_after_item}
 use Rattle.psa_text.proofs.scanner.StatesReached.{choose}
 use Rattle.psa_text.proofs.scanner.ByteFacts.{same_bytes}
 

@@ -11,11 +11,10 @@ use Rattle.psa_text.specs.declared.scanner.error.TextFault.{TextFault}
 use Rattle.psa_text.specs.declared.scanner.error.TextKind.TheVariants.{LongFile, BadMarkup, LongToken, BadNesting}
 use Rattle.psa_text.specs.declared.scanner.error.TextError.{TextError}
 use Rattle.psa_text.specs.declared.scanner.error.TextError.TheVariants.{Fault, Memory}
-use Rattle.psa_text.specs.Nesting.{State, at_start, state_of, finished_root}
+use Rattle.psa_text.specs.scanner.Nesting.{State, at_start, state_of, finished_root, nesting_after_item}
 use Rattle.psa_text.specs.TextFaults.{begins_element, fault, NoFault, FirstFault, IsTree, EndsIn}
 use Rattle.psa_text.specs.scanner.Machine as machine
 use Rattle.psa_text.specs.scanner.View.{lex_of, Judged, IsBad, IsLong, On, Done, judgement}
-use Rattle.psa_text.specs.scanner.Nesting.{nesting_after_item}
 use Rattle.psa_text.specs.NamedBytes.{line_feed, first_mark_byte, second_mark_byte, third_mark_byte}
 use Rattle.psa_text.specs.declared.limits.TheConstants.{MAX_ELEMENTS, MAX_FILE_BYTES}
 

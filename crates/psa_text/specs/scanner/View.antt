@@ -1,7 +1,7 @@
 -- What the scanner's types show: the state of the machine that they stand for, and what a byte does to it.
 use Rattle.std.specs.Prelude.{◌≡◌, ℕ, ◌+◌, ◌^◌, ◌<◌, ◌≤◌, true, false, if◌then◌else◌, List, [], ◌∷◌, ◌++◌, length, drop, Option, Some, None, Result, Ok, Err, encode_utf8, codes}
 use Rattle.std.specs.Str.{is_utf8}
-use Rattle.psa_text.specs.declared.token.Tag.{Tag}
+use Rattle.psa_text.specs.declared.tag.Tag.{Tag}
 use Rattle.psa_text.specs.declared.scanner.item.Item.{Item}
 use Rattle.psa_text.specs.declared.scanner.place.Place.{Place}
 use Rattle.psa_text.specs.declared.scanner.place.Place.TheVariants as place

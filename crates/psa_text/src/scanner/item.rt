@@ -2,7 +2,7 @@ ghost use Rattle.std.specs.Prelude.{◌≡◌};
 ghost use Rattle.psa_text.specs.TextFaults as faults;
 
 use crate::scanner::name::Name;
-use crate::token::Tag;
+use crate::tag::Tag;
 
 /// An item of a text (XML 1.0, productions 15, 16, 28 and 40 to 44).
 #[derive(Debug, Drop)]

@@ -16,7 +16,7 @@ use crate::scanner::item::Item;
 use crate::scanner::name::Name;
 use crate::scanner::place::{Entity, Place, Reference};
 use crate::scanner::spans::from_first;
-use crate::token::Tag;
+use crate::tag::Tag;
 use crate::{Attribute, Items, OutOfMemory, Text};
 use arrayvec::ArrayVec;
 use std::alloc::Global;

@@ -1,6 +1,5 @@
 use Rattle.std.proofs.Common.{◌∙◌, refl, sym, ap, subst}
-use Rattle.psa_text.specs.Nesting.{state_of}
-use Rattle.psa_text.specs.scanner.Nesting.{in_label}
+use Rattle.psa_text.specs.scanner.Nesting.{state_of, in_label}
 use Rattle.psa_text.specs.scanner.State.{Scan, scan_of}
 use Rattle.psa_text.specs.scanner.Spans.{ReadsSpan}
 use Rattle.psa_text.proofs.scanner.SpansRead.{front_is, span_texts, not_none}

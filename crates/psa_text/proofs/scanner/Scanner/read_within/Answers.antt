@@ -1,5 +1,5 @@
 use Rattle.std.proofs.Common.{◌∙◌}
-use Rattle.psa_text.specs.Nesting.{state_of}
+use Rattle.psa_text.specs.scanner.Nesting.{state_of}
 use Rattle.psa_text.specs.scanner.View.{lex_of}
 use Rattle.psa_text.proofs.scanner.SpansRead.{front_is, span_within}
 use Rattle.psa_text.proofs.scanner.Scanner.read_within.Goals as goal

@@ -1,0 +1,112 @@
+#!/usr/bin/env python3
+"""Times `scram --validate` on models of a million elements that are hard on a reader or on look-ups.
+
+    benchmarks/hostile.py [PROGRAM [ELEMENTS]]
+
+PROGRAM is ./scram if left out, and ELEMENTS, of each file, 1,000,000, the most that a file may have. Each line
+has the seconds of processor, the memory at most, the exit status and what was said. The script fails where a
+model takes 10 seconds or more or has another answer than the one that is wanted (a killed program has a status
+below 0).
+"""
+import os
+import subprocess
+import sys
+import tempfile
+
+LIMIT = 10
+ROOT = os.path.dirname(os.path.dirname(os.path.abspath(__file__)))
+SIZE = int(sys.argv[2]) - 20 if len(sys.argv) > 2 else 999_980
+HALF = SIZE // 2  # definitions of two elements
+
+
+def tree(lines, name="F"):
+    return ["<opsa-mef>", f'<define-fault-tree name="{name}">', *lines, "</define-fault-tree>", "</opsa-mef>"]
+
+
+def gate(number, to):
+    return f'<define-gate name="g{number}"><gate name="g{to}"/></define-gate>'
+
+
+def either(number, one, other):
+    return f'<define-gate name="g{number}"><or><gate name="g{one}"/><gate name="g{other}"/></or></define-gate>'
+
+
+def chain(first, last, to):
+    """Gates first to last, each of the next one, the last of another."""
+    return [gate(i, i + 1) for i in range(first, last)] + [gate(last, to)]
+
+
+def event(name):
+    return f'<define-basic-event name="{name}"/>'
+
+
+def walk(content):
+    return ["<opsa-mef>", '<define-event-tree name="E">', '<define-functional-event name="X"/>',
+            '<define-sequence name="S"/>', "<initial-state>", *content, "</initial-state>", "</define-event-tree>",
+            "</opsa-mef>"]
+
+
+def models():
+    """Each model: its name, the lines of its files, and the end of what is said; nothing where it is valid."""
+    ends = '<define-gate name="g0"><constant value="true"/></define-gate>'
+    last = 2 * HALF
+    yield "gates", [tree(gate(i, 0) for i in range(1, HALF)), tree([ends, *(gate(i, 0) for i in range(HALF, last))], "H")], ""
+    yield "references to one name", [tree(['<define-gate name="top"><or>', *['<basic-event name="a"/>'] * SIZE,
+                                           "</or></define-gate>", event("a")])], ""
+    yield "chain", [tree(chain(1, HALF, HALF + 1)), tree([*chain(HALF + 1, last, 0), ends], "H")], ":3: too deep g1"
+    yield "chain backwards", [tree([ends, *(gate(i, i - 1) for i in range(1, HALF))]),
+                              tree((gate(i, i - 1) for i in range(HALF, last)), "H")], ":503: too deep g500"
+    yield "cycle", [tree(chain(1, HALF, HALF + 1)), tree(chain(HALF + 1, last, 1), "H")], ":3: cycle g1"
+    yield "cycle at the end of a chain", [tree(chain(1, HALF, HALF + 1)), tree(chain(HALF + 1, last, last), "H")], f": cycle g{last}"
+    yield "cycles", [tree(gate(i, i) for i in range(1, HALF))], ":3: cycle g1"
+    for name, back in ("cycles in one another", lambda i: i - 1), ("cycles of one gate", lambda i: 1):
+        yield name, [tree([*(either(i, min(i + 1, SIZE // 4), back(i)) for i in range(1, SIZE // 4 + 1)), ends])], ":3: cycle g1"
+    yield "duplicates", [tree(event("a") for _ in range(SIZE))], ":4: duplicate a"
+    yield "duplicate at the end", [tree([*(event(f"e{i}") for i in range(SIZE)), event("e0")])], ": duplicate e0"
+    yield "undefined names", [tree(gate(i, f"x{i}") for i in range(1, HALF))], ":3: undefined gx1"
+    yield "private events in components", [tree(f'<define-component name="C{i}" role="private">{event("a")}</define-component>'
+                                                for i in range(HALF))], ""
+    paths = '<define-gate name="top"><or>', *['<basic-event name="F.C.C.C.C.C.C.C.C.a"/>'] * (SIZE - 200), "</or></define-gate>"
+    nested = ['<define-component name="C">'] * 50 + [event("a")] + ["</define-component>"] * 50
+    yield "paths", [tree([*nested, *paths])], ": undefined F.C.C.C.C.C.C.C.C.a"
+    yield "states of a fork", [walk(['<fork functional-event="X">', *(f'<path state="s{i}"><sequence name="S"/></path>'
+                                                                     for i in range(HALF)), "</fork>"])], ""
+    yield "one state in a fork", [walk(['<fork functional-event="X">', *['<path state="s"><sequence name="S"/></path>'] * HALF,
+                                        "</fork>"])], ":8: duplicate s"
+    yield "blocks", [walk(["<block/>"] * SIZE + ['<sequence name="S"/>'])], ""
+    yield "members of a group", [["<opsa-mef>", '<define-CCF-group name="G" model="MGL"><members>',
+                                  *(f'<basic-event name="m{i}"/>' for i in range(SIZE)),
+                                  '</members><distribution><int value="0"/></distribution></define-CCF-group>',
+                                  "</opsa-mef>"]], ":2: bad group G"
+    yield "unknown elements", [["<opsa-mef>", *["<x/>"] * SIZE, "</opsa-mef>"]], ":2: unknown element x"
+    yield "labels", [tree(["<label>a</label>"] * SIZE)], ""
+
+
+def run(program, folder, files):
+    words = []
+    for place, lines in enumerate(files):
+        path = os.path.join(folder, f"{place}.xml")
+        with open(path, "w") as out:
+            out.writelines(line + "\n" for line in lines)
+        words.append(path)
+    process = subprocess.Popen([program, "--validate", *words], stdout=subprocess.PIPE, stderr=subprocess.STDOUT)
+    said = process.stdout.read().decode(errors="replace").strip()
+    _, status, usage = os.wait4(process.pid, 0)
+    process.returncode = os.waitstatus_to_exitcode(status)
+    return usage.ru_utime + usage.ru_stime, usage.ru_maxrss // 1024, process.returncode, said
+
+
+def main():
+    program = sys.argv[1] if len(sys.argv) > 1 else os.path.join(ROOT, "scram")
+    wrong = 0
+    with tempfile.TemporaryDirectory() as folder:
+        for name, files, told in models():
+            seconds, memory, status, said = run(program, folder, files)
+            right = seconds < LIMIT and said.endswith(told) and (status == 0) == (told == "")
+            wrong += not right
+            said = said.replace(folder + os.sep, "")
+            print(f"{seconds:6.2f} s {memory:6} MB  {status:3}  {name}: {said}{'' if right else '   WRONG'}", flush=True)
+    sys.exit(wrong != 0)
+
+
+main()

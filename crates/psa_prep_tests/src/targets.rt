@@ -1,0 +1,228 @@
+ghost use Rattle.std.specs.Prelude.{◌≡◌, ◌≤◌, ◌<◌};
+ghost use Rattle.psa_nodes.specs.Nodes.{IsBounded};
+ghost use Rattle.psa_prep_tests.specs.Studies.{IsStudy};
+
+use crate::outlines::outline;
+use crate::studies::{Study, read_study};
+use crate::truths::{diagram, rank_target};
+use psa_nodes::{NodeTable, Steps};
+use psa_text::OutOfMemory;
+use std::alloc::Global;
+use std::fmt::Write;
+use std::marker::Brand;
+use std::process::Abort;
+use std::sync::ledger::{Blank, Ledger};
+use std::test::*;
+
+const TREE: &str = "<opsa-mef>
+<define-initiating-event name='I' event-tree='E1'/>
+<define-event-tree name='E1'>
+<define-functional-event name='FA'/>
+<define-functional-event name='FB'/>
+<define-sequence name='OK'/>
+<define-sequence name='BAD'/>
+<define-sequence name='GO'><event-tree name='E2'/></define-sequence>
+<initial-state>
+<fork functional-event='FA'>
+<path state='works'><collect-formula><not><gate name='GA'/></not></collect-formula><sequence name='OK'/></path>
+<path state='fails'><collect-formula><gate name='GA'/></collect-formula>
+<fork functional-event='FB'>
+<path state='works'><set-house-event name='H'><constant value='true'/></set-house-event><collect-formula><gate name='GB'/></collect-formula><sequence name='BAD'/></path>
+<path state='stuck'><collect-formula><basic-event name='c'/></collect-formula><sequence name='BAD'/></path>
+<path state='fails'><sequence name='GO'/></path>
+</fork>
+</path>
+</fork>
+</initial-state>
+</define-event-tree>
+<define-event-tree name='E2'>
+<define-sequence name='END'/>
+<initial-state><set-house-event name='H'><constant value='true'/></set-house-event><collect-formula><gate name='GB'/></collect-formula><sequence name='END'/></initial-state>
+</define-event-tree>
+<define-fault-tree name='F'>
+<define-gate name='GA'><or><basic-event name='a'/><and><basic-event name='d'/><house-event name='H'/></and></or></define-gate>
+<define-gate name='GB'><and><basic-event name='b'/><house-event name='H'/></and></define-gate>
+<define-basic-event name='a'/>
+<define-basic-event name='b'/>
+<define-basic-event name='c'/>
+<define-basic-event name='d'/>
+<define-house-event name='H'/>
+</define-fault-tree>
+</opsa-mef>";
+
+/// What it tells: the gates GA and GB, and the sequences OK, BAD and END.
+const OF_TREE: &str = "\
+a d => 0101
+b => 00
+a d => 1010
+a d b c => 0000 0101 0101 0101
+a d b => 0000 0101
+";
+
+/// A gate that a sequence collects under two lists of house states, one after the other.
+const HOUSES: &str = "<opsa-mef>
+<define-initiating-event name='I' event-tree='E'/>
+<define-event-tree name='E'>
+<define-functional-event name='X'/>
+<define-sequence name='S'/>
+<initial-state><fork functional-event='X'>
+<path state='on'><set-house-event name='H'><constant value='true'/></set-house-event><collect-formula><gate name='g'/></collect-formula><sequence name='S'/></path>
+<path state='off'><collect-formula><gate name='g'/></collect-formula><set-house-event name='H'><constant value='true'/></set-house-event><collect-formula><or><basic-event name='c'/><gate name='g'/></or></collect-formula><sequence name='S'/></path>
+</fork></initial-state>
+</define-event-tree>
+<define-fault-tree name='F'>
+<define-gate name='g'><or><and><basic-event name='a'/><house-event name='H'/></and><and><basic-event name='b'/><not><house-event name='H'/></not></and></or></define-gate>
+<define-basic-event name='a'/>
+<define-basic-event name='b'/>
+<define-basic-event name='c'/>
+<define-house-event name='H'/>
+</define-fault-tree>
+</opsa-mef>";
+
+/// The gate with H off, which is b; and the sequence: a, or b with c.
+const OF_HOUSES: &str = "\
+a b => 0011
+a b c => 0101 0111
+";
+
+/// A group of two members, with a gate for each and one for both.
+const PAIR: &str = "<opsa-mef>
+<define-fault-tree name='F'>
+<define-gate name='second'><basic-event name='B'/></define-gate>
+<define-gate name='first'><not><basic-event name='A'/></not></define-gate>
+<define-gate name='both'><and><basic-event name='A'/><basic-event name='B'/></and></define-gate>
+<define-CCF-group name='G' model='beta-factor'>
+<members><basic-event name='A'/><basic-event name='B'/></members>
+<distribution><float value='0.1'/></distribution>
+<factor><float value='0.2'/></factor>
+</define-CCF-group>
+</define-fault-tree>
+</opsa-mef>";
+
+/// B occurs by 2 alone or 3, which is both; A by 1 or 3.
+const OF_PAIR: &str = "\
+2 3 => 0111
+1 3 => 1000
+1 3 2 => 0011 0111
+";
+
+const OF_MEMBERS: &str = "\
+member 1 => 01
+member 0 => 10
+member 0 member 1 => 0001
+";
+
+/// A group of three members in one gate.
+const MGL: &str = "<opsa-mef>
+<define-fault-tree name='F'>
+<define-gate name='top'><and><basic-event name='A'/><basic-event name='B'/><basic-event name='C'/></and></define-gate>
+<define-CCF-group name='G' model='MGL'>
+<members><basic-event name='A'/><basic-event name='B'/><basic-event name='C'/></members>
+<distribution><float value='0.1'/></distribution>
+<factors><factor level='2'><float value='0.2'/></factor><factor level='3'><float value='0.5'/></factor></factors>
+</define-CCF-group>
+</define-fault-tree>
+</opsa-mef>";
+
+/// The ranks and truths of targets, by hand.
+#[test]
+fn tells_targets(rt: HostRuntime) {
+    for (text, expanded, wanted) in [
+        (TREE, false, OF_TREE),
+        (HOUSES, false, OF_HOUSES),
+        (PAIR, true, OF_PAIR),
+        (PAIR, false, OF_MEMBERS),
+    ] {
+        let study = read_study(rt.alloc(), text, expanded).expect(&rt, "a model");
+        let found = outline(rt.alloc(), &study).expect(&rt, "memory");
+        assert_eq!(rt; found.as_str(), wanted);
+    }
+}
+
+/// The seven events of a group of three members, by first visit of the members.
+#[test]
+fn ranks_a_group(rt: HostRuntime) {
+    let study = read_study(rt.alloc(), MGL, true).expect(&rt, "a model");
+    let found = outline(rt.alloc(), &study).expect(&rt, "memory");
+    assert!(rt; found.as_str().starts_with("1 3 5 7 2 6 4 =>"));
+}
+
+/// A file of so many events under a connective.
+fn wide(alloc: Global, open: &str, close: &str, count: u32) -> Result<String, OutOfMemory> {
+    let mut text = String::from_str(alloc, "<opsa-mef>\n<define-fault-tree name='F'>\n")?;
+    write!(text, "<define-gate name='top'><{open}>")?;
+    for event in 0..count {
+        write!(text, "<basic-event name='e{event}'/>")?;
+    }
+    write!(text, "</{close}></define-gate>\n")?;
+    for event in 0..count {
+        write!(text, "<define-basic-event name='e{event}'/>\n")?;
+    }
+    text.push_str("</define-fault-tree>\n</opsa-mef>\n")?;
+    Ok(text)
+}
+
+/// 2,049 events are too many.
+#[test]
+fn refuses_too_many_events(rt: HostRuntime) {
+    let text = wide(rt.alloc(), "or", "or", 2_049).expect(&rt, "memory");
+    let study = read_study(rt.alloc(), text.as_str(), false).expect(&rt, "a model");
+    let found = outline(rt.alloc(), &study).expect(&rt, "memory");
+    assert_eq!(rt; found.as_str(), "0:3: too many events top\n");
+}
+
+/// The numbers of ranks, of nodes of the graph, of nodes of the diagram and of remembered results.
+fn sizes<L: Ledger>(
+    rt: &impl Abort,
+    alloc: Global,
+    study: &Study,
+    blank: Blank,
+) -> (usize, usize, u64, u64)
+    requires study { IsStudy study.now }
+    requires name { blank.name ≡ L.name }
+    requires parts { blank.parts ≡ L.parts }
+    requires some { 0 < blank.parts }
+{
+    let mut steps = Steps::<L>::begin(blank);
+    for target in study.targets.as_slice() {
+        let mut table = NodeTable::new(alloc);
+        let ranked = rank_target(alloc, study, target).expect(rt, "ranks");
+        diagram(alloc, &mut table, &ranked, &mut steps).expect(rt, "memory");
+        let graph = ranked.graph.nodes.len();
+        return (ranked.ranks.len(), graph, table.len(), table.entries());
+    }
+    (0, 0, 0, 0)
+}
+
+/// Wide connectives of 2,048 events and of fewer have graphs and diagrams of few nodes: of n events two a
+/// rank where one decides, and of k of n in proportion to k times n.
+#[test]
+fn keeps_wide_connectives_small(rt: HostRuntime) {
+    for (open, close, count, wanted) in [
+        ("or", "or", 2_048, (2_048, 4_097, 4_095, 2_047)),
+        ("and", "and", 2_048, (2_048, 4_097, 4_095, 2_047)),
+        (
+            "atleast min='2'",
+            "atleast",
+            1_000,
+            (1_000, 3_997, 3_995, 3_993),
+        ),
+        (
+            "cardinality min='0' max='600'",
+            "cardinality",
+            600,
+            (600, 1_202, 0, 0),
+        ),
+        (
+            "atleast min='50'",
+            "atleast",
+            100,
+            (100, 5_101, 5_099, 7_449),
+        ),
+    ] {
+        let text = wide(rt.alloc(), open, close, count).expect(&rt, "memory");
+        let study = read_study(rt.alloc(), text.as_str(), false).expect(&rt, "a model");
+        let found = sizes::<Brand>(&rt, rt.alloc(), &study, Blank::new(1));
+        assert_eq!(rt; found, wanted, "{open}");
+    }
+}
