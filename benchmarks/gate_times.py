@@ -2,7 +2,11 @@
 """What the merge gate costs: runs `rt ci` at the top of this repository and tells, for each crate, the processor
 seconds of its proof, of its tests and of its must-fail edits, their sum, and the wall time.
 
-    benchmarks/gate_times.py [FILE]      the table goes to standard output, what rt ci says to FILE (gate.log)
+    benchmarks/gate_times.py [FILE [NAME..]]
+
+The table goes to standard output, what rt ci says to FILE (gate.log). With names, only these crates and those below
+them are tried, as by `rt ci NAME..`: what passes is kept, so several such runs and a whole one behind them try each
+crate once, and their tables add up to the whole.
 
 The processes below rt ci are looked at four times a second (in /proc, so on Linux alone). Each run of the prover has
 the crate's name among its words. A run in a folder rt-edit-.. checks an edit, one with the word --test the tests, and
@@ -102,7 +106,7 @@ def main():
     seconds, tasks, ended = {}, {}, threading.Event()
     start = time.time()
     with open(log, "wb") as out:
-        gate = subprocess.Popen(["rt", "ci"], stdin=subprocess.DEVNULL, stdout=out, stderr=out)
+        gate = subprocess.Popen(["rt", "ci", *sys.argv[2:]], stdin=subprocess.DEVNULL, stdout=out, stderr=out)
         watcher = threading.Thread(target=watch, args=(gate.pid, ended, seconds, tasks))
         watcher.start()
         status = gate.wait()
