@@ -10,7 +10,6 @@ use psa_text::OutOfMemory;
 use std::alloc::Global;
 use std::fmt::Write;
 use std::marker::Brand;
-use std::process::Abort;
 use std::sync::ledger::{Blank, Ledger};
 use std::test::*;
 
@@ -112,7 +111,7 @@ member 0 => 10
 member 0 member 1 => 0001
 ";
 
-/// A group of three members in one gate.
+/// A group of three members in one gate: seven events, by first visit of the members.
 const MGL: &str = "<opsa-mef>
 <define-fault-tree name='F'>
 <define-gate name='top'><and><basic-event name='A'/><basic-event name='B'/><basic-event name='C'/></and></define-gate>
@@ -124,6 +123,17 @@ const MGL: &str = "<opsa-mef>
 </define-fault-tree>
 </opsa-mef>";
 
+/// Their ranks; without the first event the gate is false, with it alone too.
+const OF_MGL: &str = "\
+1 3 5 7 2 6 4 => 00
+";
+
+/// What tells of the targets of a text, in lines; None where it has a fault or memory ran out.
+fn told(alloc: Global, text: &str, expanded: bool) -> Option<String> {
+    let study = read_study(alloc, text, expanded)?;
+    outline(alloc, &study).ok()
+}
+
 /// The ranks and truths of targets, by hand.
 #[test]
 fn tells_targets(rt: HostRuntime) {
@@ -132,32 +142,38 @@ fn tells_targets(rt: HostRuntime) {
         (HOUSES, false, OF_HOUSES),
         (PAIR, true, OF_PAIR),
         (PAIR, false, OF_MEMBERS),
+        (MGL, true, OF_MGL),
     ] {
-        let study = read_study(rt.alloc(), text, expanded).expect(&rt, "a model");
-        let found = outline(rt.alloc(), &study).expect(&rt, "memory");
+        let found = told(rt.alloc(), text, expanded).expect(&rt, "a model");
         assert_eq!(rt; found.as_str(), wanted);
     }
 }
 
-/// The seven events of a group of three members, by first visit of the members.
-#[test]
-fn ranks_a_group(rt: HostRuntime) {
-    let study = read_study(rt.alloc(), MGL, true).expect(&rt, "a model");
-    let found = outline(rt.alloc(), &study).expect(&rt, "memory");
-    assert!(rt; found.as_str().starts_with("1 3 5 7 2 6 4 =>"));
+/// References to so many events.
+fn push_references(out: &mut String, count: u32) -> Result<(), OutOfMemory> {
+    for event in 0..count {
+        write!(out, "<basic-event name='e{event}'/>")?;
+    }
+    Ok(())
 }
 
-/// A file of so many events under a connective.
+/// The definitions of so many events.
+fn push_definitions(out: &mut String, count: u32) -> Result<(), OutOfMemory> {
+    for event in 0..count {
+        write!(out, "<define-basic-event name='e{event}'/>\n")?;
+    }
+    Ok(())
+}
+
+/// A file of so many events under a connective: its tag with attributes, and its end.
 fn wide(alloc: Global, open: &str, close: &str, count: u32) -> Result<String, OutOfMemory> {
     let mut text = String::from_str(alloc, "<opsa-mef>\n<define-fault-tree name='F'>\n")?;
-    write!(text, "<define-gate name='top'><{open}>")?;
-    for event in 0..count {
-        write!(text, "<basic-event name='e{event}'/>")?;
-    }
-    write!(text, "</{close}></define-gate>\n")?;
-    for event in 0..count {
-        write!(text, "<define-basic-event name='e{event}'/>\n")?;
-    }
+    text.push_str("<define-gate name='top'>")?;
+    text.push_str(open)?;
+    push_references(&mut text, count)?;
+    text.push_str(close)?;
+    text.push_str("</define-gate>\n")?;
+    push_definitions(&mut text, count)?;
     text.push_str("</define-fault-tree>\n</opsa-mef>\n")?;
     Ok(text)
 }
@@ -165,33 +181,46 @@ fn wide(alloc: Global, open: &str, close: &str, count: u32) -> Result<String, Ou
 /// 2,049 events are too many.
 #[test]
 fn refuses_too_many_events(rt: HostRuntime) {
-    let text = wide(rt.alloc(), "or", "or", 2_049).expect(&rt, "memory");
-    let study = read_study(rt.alloc(), text.as_str(), false).expect(&rt, "a model");
-    let found = outline(rt.alloc(), &study).expect(&rt, "memory");
+    let text = wide(rt.alloc(), "<or>", "</or>", 2_049).expect(&rt, "memory");
+    let found = told(rt.alloc(), text.as_str(), false).expect(&rt, "a model");
     assert_eq!(rt; found.as_str(), "0:3: too many events top\n");
 }
 
-/// The numbers of ranks, of nodes of the graph, of nodes of the diagram and of remembered results.
-fn sizes<L: Ledger>(
-    rt: &impl Abort,
-    alloc: Global,
-    study: &Study,
-    blank: Blank,
-) -> (usize, usize, u64, u64)
+/// For each target the numbers of ranks, of nodes of the graph, of nodes of the diagram and of remembered
+/// results, in a line; None where memory ran out.
+fn sizes<L: Ledger>(alloc: Global, study: &Study, blank: Blank) -> Option<String>
     requires study { IsStudy study.now }
     requires name { blank.name ≡ L.name }
     requires parts { blank.parts ≡ L.parts }
     requires some { 0 < blank.parts }
 {
     let mut steps = Steps::<L>::begin(blank);
+    let mut told = String::new(alloc);
     for target in study.targets.as_slice() {
         let mut table = NodeTable::new(alloc);
-        let ranked = rank_target(alloc, study, target).expect(rt, "ranks");
-        diagram(alloc, &mut table, &ranked, &mut steps).expect(rt, "memory");
-        let graph = ranked.graph.nodes.len();
-        return (ranked.ranks.len(), graph, table.len(), table.entries());
+        let ranked = rank_target(alloc, study, target).ok()?;
+        diagram(alloc, &mut table, &ranked, &mut steps).ok()?;
+        write!(told, "{} {} ", ranked.ranks.len(), ranked.graph.nodes.len()).ok()?;
+        write!(told, "{} {}\n", table.len(), table.entries()).ok()?;
     }
-    (0, 0, 0, 0)
+    Some(told)
+}
+
+/// The sizes of a wide connective.
+fn wide_sizes<L: Ledger>(
+    alloc: Global,
+    open: &str,
+    close: &str,
+    count: u32,
+    blank: Blank,
+) -> Option<String>
+    requires name { blank.name ≡ L.name }
+    requires parts { blank.parts ≡ L.parts }
+    requires some { 0 < blank.parts }
+{
+    let text = wide(alloc, open, close, count).ok()?;
+    let study = read_study(alloc, text.as_str(), false)?;
+    sizes::<L>(alloc, &study, blank)
 }
 
 /// Wide connectives of 2,048 events and of fewer have graphs and diagrams of few nodes: of n events two a
@@ -199,30 +228,28 @@ fn sizes<L: Ledger>(
 #[test]
 fn keeps_wide_connectives_small(rt: HostRuntime) {
     for (open, close, count, wanted) in [
-        ("or", "or", 2_048, (2_048, 4_097, 4_095, 2_047)),
-        ("and", "and", 2_048, (2_048, 4_097, 4_095, 2_047)),
+        ("<or>", "</or>", 2_048, "2048 4097 4095 2047\n"),
+        ("<and>", "</and>", 2_048, "2048 4097 4095 2047\n"),
         (
-            "atleast min='2'",
-            "atleast",
+            "<atleast min='2'>",
+            "</atleast>",
             1_000,
-            (1_000, 3_997, 3_995, 3_993),
+            "1000 3997 3995 3993\n",
         ),
         (
-            "cardinality min='0' max='600'",
-            "cardinality",
+            "<cardinality min='0' max='600'>",
+            "</cardinality>",
             600,
-            (600, 1_202, 0, 0),
+            "600 1202 0 0\n",
         ),
         (
-            "atleast min='50'",
-            "atleast",
+            "<atleast min='50'>",
+            "</atleast>",
             100,
-            (100, 5_101, 5_099, 7_449),
+            "100 5101 5099 7449\n",
         ),
     ] {
-        let text = wide(rt.alloc(), open, close, count).expect(&rt, "memory");
-        let study = read_study(rt.alloc(), text.as_str(), false).expect(&rt, "a model");
-        let found = sizes::<Brand>(&rt, rt.alloc(), &study, Blank::new(1));
-        assert_eq!(rt; found, wanted, "{open}");
+        let found = wide_sizes::<Brand>(rt.alloc(), open, close, count, Blank::new(1));
+        assert_eq!(rt; found.expect(&rt, "memory").as_str(), wanted, "{open}");
     }
 }

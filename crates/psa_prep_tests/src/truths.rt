@@ -13,7 +13,6 @@ use psa_nodes::{NodeError, NodeId, NodeTable, Steps, TERMINALS};
 use psa_prep::{RankError, prepare, rank};
 use psa_text::OutOfMemory;
 use std::alloc::Global;
-use std::process::Abort;
 use std::sync::ledger::Ledger;
 
 /// The ranks of a target, and its graph.
@@ -67,25 +66,25 @@ pub fn graph_value(alloc: Global, graph: &Graph, set: u32) -> Result<bool, OutOf
     Ok(told(values.as_slice(), graph.root))
 }
 
-/// The truth of a decision diagram in a set of ranks. Stops where a node is not there.
+/// The truth of a decision diagram in a set of ranks; None where a node is not there.
 pub fn diagram_value<L: Ledger>(
-    rt: &impl Abort,
     table: &NodeTable,
     root: NodeId,
     set: u32,
     steps: &mut Steps<L>,
-) -> bool {
+) -> Option<bool> {
     let mut id = root;
     for _rank in 0..32 {
         if id.0 < TERMINALS {
-            return id == NodeId::TRUE;
+            return Some(id == NodeId::TRUE);
         }
-        let nodes = table.len();
-        assert!(rt; id.0 - TERMINALS < nodes);
+        if id.0 - TERMINALS >= table.len() {
+            return None;
+        }
         let node = table.node(id, steps);
         id = if has(set, node.var) { node.hi } else { node.lo };
     }
-    false
+    None
 }
 
 /// The decision diagram of a target's graph.

@@ -12,6 +12,13 @@ products prime-implicants
 limit-order 20
 ";
 
+/// The head of a report of prime implicants of order 1.
+pub const FIRST_ORDER_PRIMES_HEAD: &str = "scram report
+algorithm bdd
+products prime-implicants
+limit-order 1
+";
+
 /// The head of a report by zero-suppressed diagrams.
 pub const ZBDD_HEAD: &str = "scram report
 algorithm zbdd

@@ -189,6 +189,11 @@ pub const GATE_BEHIND: &str =
     "</define-gate><define-basic-event name=\"a\"/><define-basic-event name=\"b\"/><define-basic-event name=\"c\"/></define-fault-tree></opsa-mef>
 ";
 
+/// What stands behind a formula over a and b, which occur in a quarter and in an eighth of all cases.
+pub const GATE_BEHIND_VALUES: &str =
+    "</define-gate><define-basic-event name=\"a\"><float value=\"0.25\"/></define-basic-event><define-basic-event name=\"b\"><float value=\"0.125\"/></define-basic-event></define-fault-tree></opsa-mef>
+";
+
 /// An event up to its expression.
 pub const EVENT_BEFORE: &str =
     "<opsa-mef><define-fault-tree name=\"F\"><define-gate name=\"top\"><basic-event name=\"a\"/></define-gate><define-basic-event name=\"a\">";

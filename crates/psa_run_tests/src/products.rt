@@ -1,6 +1,11 @@
 use crate::fakes::SOUND;
-use crate::heads::{FIRST_ORDER_HEAD, HEAD, PRIMES_HEAD, TOP, TWO_SECTION, ZBDD_HEAD};
-use crate::models::{A, B, C, EVENT_BEFORE, EVENT_BEHIND, GATE_BEFORE, GATE_BEHIND, TWO};
+use crate::heads::{
+    FIRST_ORDER_HEAD, FIRST_ORDER_PRIMES_HEAD, HEAD, PRIMES_HEAD, QUANTITIES, TOP, TWO_SECTION,
+    ZBDD_HEAD,
+};
+use crate::models::{
+    A, B, C, EVENT_BEFORE, EVENT_BEHIND, GATE_BEFORE, GATE_BEHIND, GATE_BEHIND_VALUES, TWO,
+};
 use crate::rows::{Row, differences};
 use psa_engine::Status;
 use std::test::Fail;
@@ -496,7 +501,7 @@ count 1
 ];
 
 /// Prime implicants.
-pub static PRIMES: [Row; 3] = [
+pub static PRIMES: [Row; 9] = [
     Row {
         words: &["--prime-implicants", "m.xml"],
         files: &[(
@@ -565,6 +570,135 @@ count 3
             "- 1 c
 - 2 a b
 count 2
+",
+        ],
+        err: "",
+    },
+    // The sure event, and the impossible one.
+    Row {
+        words: &["--prime-implicants", "m.xml"],
+        files: &[(
+            "m.xml",
+            &[
+                GATE_BEFORE,
+                "<or>",
+                A,
+                "<not>",
+                A,
+                "</not></or>",
+                GATE_BEHIND,
+            ],
+        )],
+        status: Status::Done,
+        out: &[
+            PRIMES_HEAD,
+            TOP,
+            "- 0 unity
+count 1
+",
+        ],
+        err: "",
+    },
+    Row {
+        words: &["--prime-implicants", "m.xml"],
+        files: &[(
+            "m.xml",
+            &[
+                GATE_BEFORE,
+                "<and>",
+                A,
+                "<not>",
+                A,
+                "</not></and>",
+                GATE_BEHIND,
+            ],
+        )],
+        status: Status::Done,
+        out: &[
+            PRIMES_HEAD,
+            TOP,
+            "count 0
+",
+        ],
+        err: "",
+    },
+    // Within order 1.
+    Row {
+        words: &["--prime-implicants", "-l", "1", "m.xml"],
+        files: &[(
+            "m.xml",
+            &[
+                GATE_BEFORE,
+                "<or><and>",
+                A,
+                B,
+                "</and>",
+                C,
+                "</or>",
+                GATE_BEHIND,
+            ],
+        )],
+        status: Status::Done,
+        out: &[
+            FIRST_ORDER_PRIMES_HEAD,
+            TOP,
+            "- 1 c
+count 1
+",
+        ],
+        err: "",
+    },
+    Row {
+        words: &["--prime-implicants", "-l", "1", "m.xml"],
+        files: &[(
+            "m.xml",
+            &[GATE_BEFORE, "<xor>", A, B, "</xor>", GATE_BEHIND],
+        )],
+        status: Status::Done,
+        out: &[
+            FIRST_ORDER_PRIMES_HEAD,
+            TOP,
+            "count 0
+",
+        ],
+        err: "",
+    },
+    // An event that does not occur counts with its complement.
+    Row {
+        words: &["--prime-implicants", "--rare-event", "m.xml"],
+        files: &[(
+            "m.xml",
+            &[GATE_BEFORE, "<xor>", A, B, "</xor>", GATE_BEHIND_VALUES],
+        )],
+        status: Status::Done,
+        out: &[
+            PRIMES_HEAD,
+            QUANTITIES,
+            TOP,
+            "- 2 0.218750000000 0.218750000000 a ~b
+- 2 0.093750000000 0.093750000000 ~a b
+count 2
+rare-event 0.312500000000 0.312500000000
+",
+        ],
+        err: "",
+    },
+    Row {
+        words: &["--prime-implicants", "--mcub", "--cut-off", "0.1", "m.xml"],
+        files: &[(
+            "m.xml",
+            &[GATE_BEFORE, "<xor>", A, B, "</xor>", GATE_BEHIND_VALUES],
+        )],
+        status: Status::Done,
+        out: &[
+            PRIMES_HEAD,
+            "mission-time 8760.000000000000 8760.000000000000
+cut-off 0.100000000000
+",
+            TOP,
+            "- 2 0.218750000000 0.218750000000 a ~b
+count 1
+mcub 0.218750000000 0.218750000000
 ",
         ],
         err: "",

@@ -1,5 +1,5 @@
 use crate::fakes::SOUND;
-use crate::heads::{HEAD, TOP};
+use crate::heads::{HEAD, TOP, ZBDD_HEAD};
 use crate::models::{
     COMPONENTS_BEFORE, COMPONENTS_BEHIND, COMPONENTS_BETWEEN, CONDITION_BEFORE, CONDITION_BEHIND,
     TREE,
@@ -8,15 +8,8 @@ use crate::rows::{Row, differences};
 use psa_engine::Status;
 use std::test::Fail;
 
-/// Event trees with a link and with a condition, and private components.
-pub static TREES: [Row; 3] = [
-    Row {
-        words: &["tree.xml"],
-        files: &[("tree.xml", &[TREE])],
-        status: Status::Done,
-        out: &[
-            HEAD,
-            "top-event F GA
+/// The sections of two event trees with a link.
+const TREE_SECTIONS: &str = "top-event F GA
 - 1 a
 count 1
 top-event F GB
@@ -31,8 +24,22 @@ count 2
 sequence I E2 END
 - 2 a b
 count 1
-",
-        ],
+";
+
+/// Event trees with a link and with a condition, and private components.
+pub static TREES: [Row; 4] = [
+    Row {
+        words: &["tree.xml"],
+        files: &[("tree.xml", &[TREE])],
+        status: Status::Done,
+        out: &[HEAD, TREE_SECTIONS],
+        err: "",
+    },
+    Row {
+        words: &["--zbdd", "tree.xml"],
+        files: &[("tree.xml", &[TREE])],
+        status: Status::Done,
+        out: &[ZBDD_HEAD, TREE_SECTIONS],
         err: "",
     },
     Row {
