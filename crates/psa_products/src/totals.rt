@@ -2,7 +2,7 @@ ghost use Rattle.std.specs.Prelude.{◌≡◌, ◌≤◌, ◌∷◌, ◌++◌, �
 ghost use Rattle.psa_number.specs.Ends.{Ends};
 ghost use Rattle.psa_number.specs.Exponential.{last_term};
 ghost use Rattle.psa_number.specs.Fraction.{Holds};
-ghost use Rattle.psa_number.specs.Operations.{IsInUnit, complement_ends};
+ghost use Rattle.psa_number.specs.Operations.{IsInUnit, complement_ends, unit_product_ends};
 ghost use Rattle.psa_number.specs.Scaled.{Scaled};
 ghost use Rattle.psa_model.specs.declared.expanded.Expanded.{Expanded};
 ghost use Rattle.psa_model.specs.declared.ids.EventNumber.{EventNumber};
@@ -77,6 +77,21 @@ impl Totals {
     {
         self.count = (self.count + 1).min(MAX_COUNT);
         self.rare_event = add_in_unit(self.rare_event, bound);
-        self.rest = times_in_unit(self.rest, complement(bound));
+        self.rest = rest_with(self.rest, bound);
+    }
+}
+
+/// What is left of 1 with one bound more.
+fn rest_with(rest: Interval, bound: Interval) -> Interval
+    requires rest { IsInUnit rest }
+    requires bound { IsInUnit bound }
+    ensures exact { result ≡ unit_product_ends rest (complement_ends bound) }
+    ensures in_unit { IsInUnit result }
+{
+    // A bound of 0, as each has where no quantities are asked for, takes nothing away: no division is made.
+    if bound.hi > 0 {
+        times_in_unit(rest, complement(bound))
+    } else {
+        rest
     }
 }
