@@ -190,7 +190,7 @@ fn push_targets<L: Ledger>(
     study: &Study,
     steps: &mut Steps<L>,
 ) -> Option<()>
-    requires study { IsStudy study.now }
+    requires study { IsStudy study.now.expanded study.now.targets }
     requires bounded { IsBounded table.old.nodes }
     ensures { IsBounded table.new.nodes }
 {

@@ -50,7 +50,7 @@ fn push_target(
     study: &Study,
     target: &Target,
 ) -> Result<(), OutOfMemory>
-    requires study { IsStudy study.now }
+    requires study { IsStudy study.now.expanded study.now.targets }
     requires target { target_stands study.now.expanded.model target.now ≡ true }
 {
     match rank_target(alloc, study, target) {
@@ -79,7 +79,7 @@ fn push_target(
 
 /// Each target in a line of its own.
 pub fn outline(alloc: Global, study: &Study) -> Result<String, OutOfMemory>
-    requires study { IsStudy study.now }
+    requires study { IsStudy study.now.expanded study.now.targets }
 {
     let mut out = String::new(alloc);
     for target in study.targets.as_slice() {

@@ -63,7 +63,7 @@ fn model_of(alloc: Global, text: &str) -> Option<Model>
 fn study_of(alloc: Global, model: Model, expanded: bool) -> Option<Study>
     requires promised { IsModel model }
     requires few { IsOfSize model }
-    ensures { IfSome result IsStudy }
+    ensures { IfSome result (λ study. IsStudy study.expanded study.targets) }
 {
     let Ok(targets) = targets(alloc, &model) else {
         return None;
@@ -79,7 +79,7 @@ fn study_of(alloc: Global, model: Model, expanded: bool) -> Option<Study>
 
 /// What a text says; None where it has a fault.
 pub fn read_study(alloc: Global, text: &str, expanded: bool) -> Option<Study>
-    ensures { IfSome result IsStudy }
+    ensures { IfSome result (λ study. IsStudy study.expanded study.targets) }
 {
     match model_of(alloc, text) {
         Some(model) => study_of(alloc, model, expanded),

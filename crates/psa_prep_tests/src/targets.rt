@@ -189,7 +189,7 @@ fn refuses_too_many_events(rt: HostRuntime) {
 /// For each target the numbers of ranks, of nodes of the graph, of nodes of the diagram and of remembered
 /// results, in a line; None where memory ran out.
 fn sizes<L: Ledger>(alloc: Global, study: &Study, blank: Blank) -> Option<String>
-    requires study { IsStudy study.now }
+    requires study { IsStudy study.now.expanded study.now.targets }
     requires name { blank.name ≡ L.name }
     requires parts { blank.parts ≡ L.parts }
     requires some { 0 < blank.parts }

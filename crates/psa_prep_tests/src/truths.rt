@@ -24,7 +24,7 @@ pub struct Ranked {
 
 /// The ranks and the graph of a target.
 pub fn rank_target(alloc: Global, study: &Study, target: &Target) -> Result<Ranked, RankError>
-    requires study { IsStudy study.now }
+    requires study { IsStudy study.now.expanded study.now.targets }
     requires target { target_stands study.now.expanded.model target.now ≡ true }
     ensures graph { IfOk result (λ ranked. IsGraph ranked.graph) }
     ensures width { IfOk result (λ ranked. ranked.graph.width ≤ MAX_RANKS) }
