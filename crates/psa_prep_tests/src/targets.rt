@@ -207,20 +207,10 @@ fn sizes<L: Ledger>(alloc: Global, study: &Study, blank: Blank) -> Option<String
 }
 
 /// The sizes of a wide connective.
-fn wide_sizes<L: Ledger>(
-    alloc: Global,
-    open: &str,
-    close: &str,
-    count: u32,
-    blank: Blank,
-) -> Option<String>
-    requires name { blank.name ≡ L.name }
-    requires parts { blank.parts ≡ L.parts }
-    requires some { 0 < blank.parts }
-{
+fn wide_sizes(alloc: Global, open: &str, close: &str, count: u32) -> Option<String> {
     let text = wide(alloc, open, close, count).ok()?;
     let study = read_study(alloc, text.as_str(), false)?;
-    sizes::<L>(alloc, &study, blank)
+    sizes::<Brand>(alloc, &study, Blank::new(1))
 }
 
 /// Wide connectives of 2,048 events and of fewer have graphs and diagrams of few nodes: of n events two a
@@ -249,7 +239,7 @@ fn keeps_wide_connectives_small(rt: HostRuntime) {
             "100 5101 5099 7449\n",
         ),
     ] {
-        let found = wide_sizes::<Brand>(rt.alloc(), open, close, count, Blank::new(1));
+        let found = wide_sizes(rt.alloc(), open, close, count);
         assert_eq!(rt; found.expect(&rt, "memory").as_str(), wanted, "{open}");
     }
 }
