@@ -1,5 +1,5 @@
 -- The products that a rule keeps.
-use Rattle.std.proofs.Common.{◌≡◌, ℕ, Bool, true, false, List, [], ◌∷◌, ◌++◌, Option, None, Some, IfSome, IfNone, map, append_assoc, refl, sym, ap, subst, ◌∙◌, inl, inr, true≢false}
+use Rattle.std.proofs.Common.{◌≡◌, ℕ, Bool, true, false, List, [], ◌∷◌, ◌++◌, Option, None, Some, IfSome, IfNone, if◌then◌else◌, map, append_assoc, refl, sym, ap, subst, ◌∙◌, inl, inr, true≢false}
 use Rattle.std.proofs.lemmas.Bool.{and_parts, and_from, cases_Bool}
 use Rattle.std.proofs.lemmas.List.{append-nil}
 use mathlib.Core.Path.{path_j}
@@ -181,16 +181,16 @@ module _ (says : List ℕ → Bool → Type 0) where
   next-end before after (Some product) n h k = tt
 
   -- the same of the value that a contract sees
-  pub value-some : (value before after : List (List ℕ)) (answer : Option (ArrayVec Literal)) (n : IsNextKept says before after answer) (h : AllAnswered says before) (k : AllAnswered says after)
-      → kept says before h ≡ value → IfSome answer (λ product. value ≡ literals_of product.items ∷ kept says after k)
-  value-some value before after None n h k e = tt
-  value-some value before after (Some product) n h k e = sym e ∙ next-some before after (Some product) n h k
+  pub value-some : (value before after : List (List ℕ)) (is_found : Bool) (product : ArrayVec Literal) (n : IsNextKept says before after (if is_found then Some product else None)) (h : AllAnswered says before) (k : AllAnswered says after)
+      → kept says before h ≡ value → is_found ≡ true → value ≡ literals_of product.items ∷ kept says after k
+  value-some value before after true product n h k e told = sym e ∙ next-some before after (Some product) n h k
+  value-some value before after false product n h k e told = absurd (cc)
 
   -- and at its end
-  pub value-end : (value before after : List (List ℕ)) (answer : Option (ArrayVec Literal)) (n : IsNextKept says before after answer) (h : AllAnswered says before) (k : AllAnswered says after)
-      → kept says before h ≡ value → IfNone answer ((value ≡ []) × (kept says after k ≡ []))
-  value-end value before after None n h k e = let r = next-end before after None n h k in (sym e ∙ r.0, r.1)
-  value-end value before after (Some product) n h k e = tt
+  pub value-end : (value before after : List (List ℕ)) (is_found : Bool) (product : ArrayVec Literal) (n : IsNextKept says before after (if is_found then Some product else None)) (h : AllAnswered says before) (k : AllAnswered says after)
+      → kept says before h ≡ value → is_found ≡ false → (value ≡ []) × (kept says after k ≡ [])
+  value-end value before after true product n h k e told = absurd (cc)
+  value-end value before after false product n h k e told = let r = next-end before after None n h k in (sym e ∙ r.0, r.1)
 
 -- a literal is read back from its number
 pub read-back : (literals : List Literal) → map (λ number. literal_of number) (literals_of literals) ≡ literals

@@ -1,4 +1,4 @@
-ghost use Rattle.std.specs.Prelude.{◌≡◌, ◌≤◌, ℕ, Bool, true, List, [], ◌∷◌, length, IfSome, IfNone};
+ghost use Rattle.std.specs.Prelude.{◌≡◌, ◌≤◌, ℕ, Bool, true, false, List, [], ◌∷◌, Some, None, length, if◌then◌else◌, IfSome, IfNone, IsTrue};
 ghost use Rattle.psa_logic.specs.Products.{IsListing};
 ghost use Rattle.psa_model.specs.Literals.{literals_of};
 ghost use Rattle.psa_nodes.specs.declared.node.Kind.TheVariants.{Zbdd};
@@ -34,24 +34,25 @@ impl<'a, R: Rule> Model for Listing<'a, R> {
         × AllCallable (λ set. R.may l.rule (product_of set)) (to_come l.walk) };
 }
 
-/// The next member of a walk that a rule keeps.
+/// Makes a product that of the next member of a walk that a rule keeps; false where none is left.
 fn next_kept<R: Rule, L: Ledger>(
     walk: &mut Walk<'_>,
     rule: &R,
+    product: &mut Product,
     steps: &mut Steps<L>,
-) -> Option<Product>
+) -> bool
     requires walk { IsWalk walk.old }
     requires callable { AllCallable (λ set. R.may rule.now (product_of set)) (to_come walk.old) }
     ensures walk { IsWalk walk.new }
     ensures next { IsNextKept (λ set. R.says rule.now (product_of set))
-        (to_come walk.old) (to_come walk.new) result }
+        (to_come walk.old) (to_come walk.new) (if result then Some product.new else None) }
 {
-    while let Some(product) = walk.next(steps) {
-        if rule.keeps(&product) {
-            return Some(product);
+    while walk.next(product, steps) {
+        if rule.keeps(product) {
+            return true;
         }
     }
-    None
+    false
 }
 
 impl<'a, R: Rule> Listing<'a, R> {
@@ -75,12 +76,25 @@ impl<'a, R: Rule> Listing<'a, R> {
         Listing { walk, rule }
     }
 
+    /// Makes a product the next one: of those that have not been given, the first in the order of a report;
+    /// false where all were given. It spares the copies of `next`.
+    pub fn next_into<L: Ledger>(&mut self, product: &mut Product, steps: &mut Steps<L>) -> bool
+        ensures some { IsTrue result → self.old ≡ literals_of product.new.items ∷ self.new }
+        ensures none { result ≡ false → (self.old ≡ []) × (self.new ≡ []) }
+    {
+        next_kept(&mut self.walk, &self.rule, product, steps)
+    }
+
     /// The next product: of those that have not been given, the first in the order of a report; None where all
     /// were given.
     pub fn next<L: Ledger>(&mut self, steps: &mut Steps<L>) -> Option<Product>
         ensures some { IfSome result (λ product. self.old ≡ literals_of product.items ∷ self.new) }
         ensures none { IfNone result ((self.old ≡ []) × (self.new ≡ [])) }
     {
-        next_kept(&mut self.walk, &self.rule, steps)
+        let mut product = Product::new();
+        if self.next_into(&mut product, steps) {
+            return Some(product);
+        }
+        None
     }
 }

@@ -16,13 +16,12 @@ fn literal_with(number: u32) -> Literal
     }
 }
 
-/// The product of the nodes' variables, which are literal numbers.
-pub(crate) fn product_of_nodes(nodes: &ArrayVec<Node, MAX_ORDER>) -> Product
-    ensures { result.items ≡ map (λ (n : Node). literal_of n.var) nodes.now.items }
+/// Makes a product that of the nodes' variables, which are literal numbers.
+pub(crate) fn take_nodes(product: &mut Product, nodes: &ArrayVec<Node, MAX_ORDER>)
+    ensures { product.new.items ≡ map (λ (n : Node). literal_of n.var) nodes.now.items }
 {
-    let mut product = Product::new();
+    product.clear();
     for node in nodes.as_slice() {
         product.push(literal_with(node.var));
     }
-    product
 }

@@ -1,4 +1,4 @@
-ghost use Rattle.std.specs.Prelude.{◌≡◌, ◌↔◌, ◌<◌, ◌≤◌, ◌+◌, true, false, [], ◌∷◌, IsTrue, IfSome, IfNone};
+ghost use Rattle.std.specs.Prelude.{◌≡◌, ◌↔◌, ◌<◌, ◌≤◌, ◌+◌, true, false, [], ◌∷◌, IsTrue};
 ghost use Rattle.psa_model.specs.Literals.{literals_of};
 ghost use Rattle.psa_nodes.specs.declared.node.Kind.TheVariants.{Zbdd};
 ghost use Rattle.psa_nodes.specs.Readings.{IsInner, IsTerminal, stands};
@@ -6,7 +6,7 @@ ghost use Rattle.psa_nodes.specs.Table.{IsTable};
 ghost use Rattle.psa_products.specs.Members.{passes};
 ghost use Rattle.psa_products.specs.Walks.{to_come, IsWalk, IsAtMember, IsPassed, ways_left, passes_left};
 
-use crate::product::product_of_nodes;
+use crate::product::take_nodes;
 use arrayvec::ArrayVec;
 use psa_model::{MAX_ORDER, Product};
 use psa_nodes::{Node, NodeId, NodeTable, Steps};
@@ -166,18 +166,19 @@ impl<'a> Walk<'a> {
         true
     }
 
-    /// The next member.
-    pub(crate) fn next<L: Ledger>(&mut self, steps: &mut Steps<L>) -> Option<Product>
+    /// Makes a product that of the next member; false where none is left.
+    pub(crate) fn next<L: Ledger>(&mut self, product: &mut Product, steps: &mut Steps<L>) -> bool
         requires walk { IsWalk self.old }
         ensures walk { IsWalk self.new }
-        ensures some { IfSome result (λ product.
-            to_come self.old ≡ literals_of product.items ∷ to_come self.new) }
-        ensures none { IfNone result ((to_come self.old ≡ []) × (to_come self.new ≡ [])) }
+        ensures some { IsTrue result →
+            to_come self.old ≡ literals_of product.new.items ∷ to_come self.new }
+        ensures none { result ≡ false → (to_come self.old ≡ []) × (to_come self.new ≡ []) }
     {
         if !self.find(steps) {
-            return None;
+            return false;
         }
         self.at = NodeId::EMPTY;
-        Some(product_of_nodes(&self.taken))
+        take_nodes(product, &self.taken);
+        true
     }
 }

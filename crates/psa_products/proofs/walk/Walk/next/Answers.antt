@@ -9,11 +9,11 @@ pub returns-clause-walk : goal.returns-clause-walk
 returns-clause-walk g c = given-walk c.find.new.self c.find.ensures.walk (c.find.ensures.found c.if-not-find.false)
 
 pub returns-clause-some : goal.returns-clause-some
-returns-clause-some g c =
+returns-clause-some g c = λ is_found.
     let w = c.find.new.self in
-    let product = c.product_of_nodes.result in
+    let product = c.take_nodes.new.product in
     let spelled : literals_of product.items ≡ map (λ (n : Node). n.var) w.taken.items =
-    ap literals_of c.product_of_nodes.ensures ∙ literals-nodes w.taken.items in
+    ap literals_of c.take_nodes.ensures ∙ literals-nodes w.taken.items in
     sym c.find.ensures.same
     ∙ given w c.find.ensures.walk (c.find.ensures.found c.if-not-find.false)
     ∙ ap (λ (set : List ℕ). set ∷ to_come (record w { at = record { 0 = 0 } })) (sym spelled)
