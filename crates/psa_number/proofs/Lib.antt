@@ -3,3 +3,4 @@ pub mod BracketLemmas
 pub mod PrintedTextLemmas
 pub mod SignedLemmas
 pub mod TaylorSumLemmas
+mod UnitProductLemmas

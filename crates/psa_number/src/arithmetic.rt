@@ -105,7 +105,7 @@ fn limited(lo: i128, hi: i128) -> Result<Interval, NumberFault>
 }
 
 /// The product of two ends, in units of 10^-24.
-pub(crate) fn product(x: i128, y: i128) -> i128
+fn product(x: i128, y: i128) -> i128
     requires left { unsigned_abs x ≤ MAX_END }
     requires right { unsigned_abs y ≤ MAX_END }
     ensures exact { result ≡ x *ℤ y }
@@ -127,14 +127,14 @@ fn greatest_of(a: i128, b: i128, c: i128, d: i128) -> i128
 }
 
 /// The floor of `z / UNITS`.
-pub(crate) fn floor_of(z: i128) -> i128
+fn floor_of(z: i128) -> i128
     ensures { result ≡ floor_units z }
 {
     z.div_euclid(i128::from(UNITS))
 }
 
 /// The ceiling of `z / UNITS`.
-pub(crate) fn ceil_of(z: i128) -> i128
+fn ceil_of(z: i128) -> i128
     requires { unsigned_abs z ≤ MAX_END * MAX_END }
     ensures { result ≡ ceil_units z }
 {

@@ -1,6 +1,9 @@
 /// The number 1 in units: a unit is 10^-12.
 pub const UNITS: u64 = 1_000_000_000_000;
 
+/// 10^6: the root of `UNITS`.
+pub(crate) const MILLION: u64 = 1_000_000;
+
 /// 10^18 units: no end of an interval is past it in magnitude.
 pub const MAX_END: u128 = 1_000_000_000_000_000_000;
 

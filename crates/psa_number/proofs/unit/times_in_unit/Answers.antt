@@ -1,9 +1,10 @@
-use Rattle.std.proofs.Common.{◌*ℤ◌, ◌≤ℤ◌, pos, ap, sym, subst, rules, ◌∙◌}
+use Rattle.std.proofs.Common.{ℤ, ap₂, ◌*ℤ◌, ◌≤ℤ◌, pos, sym, subst, rules, ◌∙◌}
 use Rattle.psa_number.specs.Units.{units, floor_units, ceil_units}
 use Rattle.psa_number.specs.Ends.{Ends}
 use Rattle.psa_number.specs.Operations.{IsInUnit}
 use Rattle.psa_number.specs.Fraction.{Fraction, Holds, times}
-use Rattle.psa_number.proofs.SignedLemmas.{read_back, product_read, unit_ends_of, interval_of_unit, products_in_unit}
+use Rattle.psa_number.proofs.SignedLemmas.{read_back, unit_ends_of, interval_of_unit, products_in_unit}
+use Rattle.psa_number.proofs.UnitProductLemmas.{read_limited}
 use Rattle.psa_number.proofs.BracketLemmas.{unit_product_held}
 use Rattle.psa_number.proofs.unit.times_in_unit.Goals as goal
 
@@ -13,8 +14,8 @@ invariant_of-result c =
     let high_a : c.a.inside.hi ≤ℤ pos units = rw (← c.a.view_is) at c.requires.left.high in
     let low_b : pos 0 ≤ℤ c.b.inside.lo = rw (← c.b.view_is) at c.requires.right.low in
     let high_b : c.b.inside.hi ≤ℤ pos units = rw (← c.b.view_is) at c.requires.right.high in
-    let lo = read_back c.floor_of.result c.floor_of.type_inv ∙ c.floor_of.ensures ∙ ap floor_units (read_back c.product.result c.product.type_inv ∙ product_read c.product.result c.a.inside.lo c.b.inside.lo c.product.ensures.exact c.a.invariant.lo_limited c.b.invariant.lo_limited) in
-    let hi = read_back c.ceil_of.result c.ceil_of.type_inv ∙ c.ceil_of.ensures ∙ ap ceil_units (read_back c.product-2.result c.product-2.type_inv ∙ product_read c.product-2.result c.a.inside.hi c.b.inside.hi c.product-2.ensures.exact c.a.invariant.hi_limited c.b.invariant.hi_limited) in
+    let lo = read_back c.product_below.result c.product_below.type_inv ∙ c.product_below.ensures ∙ ap₂ (λ (x y : ℤ). floor_units (x *ℤ y)) (read_limited c.a.inside.lo c.a.invariant.lo_limited) (read_limited c.b.inside.lo c.b.invariant.lo_limited) in
+    let hi = read_back c.product_above.result c.product_above.type_inv ∙ c.product_above.ensures ∙ ap₂ (λ (x y : ℤ). ceil_units (x *ℤ y)) (read_limited c.a.inside.hi c.a.invariant.hi_limited) (read_limited c.b.inside.hi c.b.invariant.hi_limited) in
     rw (lo, hi) (interval_of_unit (floor_units (c.a.inside.lo *ℤ c.b.inside.lo)) (ceil_units (c.a.inside.hi *ℤ c.b.inside.hi))
     (products_in_unit c.a.inside.lo c.a.inside.hi c.b.inside.lo c.b.inside.hi (record { low = low_a; ordered = c.a.invariant.ordered; high = high_a }) (record { low = low_b; ordered = c.b.invariant.ordered; high = high_b })))
 
