@@ -120,7 +120,24 @@ fn count_more(counts: &mut Items<u32>, kind: DefinitionKind) -> u32
     ensures number { result ≡ slice_index counts.old (kind_number kind) }
     ensures counted { Counted (kind_number kind) 1 counts.old counts.new }
 {
-    let place = kind as usize;
+    count_at(counts, place_of(kind))
+}
+
+/// The place of a kind among all kinds.
+fn place_of(kind: DefinitionKind) -> usize
+    ensures place { result ≡ kind_number kind }
+    ensures inside { result < KINDS }
+{
+    kind as usize
+}
+
+/// The count at a place, where one more is then counted.
+fn count_at(counts: &mut Items<u32>, place: usize) -> u32
+    requires inside { place < length counts.old }
+    requires few { slice_index counts.old place + 1 < 2 ^ 32 }
+    ensures number { result ≡ slice_index counts.old place }
+    ensures counted { Counted place 1 counts.old counts.new }
+{
     let number = counts.as_slice()[place];
     counts.set(place, number + 1);
     number
