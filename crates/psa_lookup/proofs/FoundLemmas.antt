@@ -1,5 +1,5 @@
 -- The first fault of the first three checks, or that there is none.
-use Rattle.std.proofs.Common.{◌≡◌, [], ◌∷◌, List, Option, Some, None, Result, Err, map, refl, sym, ap, ◌∙◌}
+use Rattle.std.proofs.Common.{◌≡◌, [], ◌∷◌, List, Option, Some, None, Result, Ok, Err, IfOk, OnOk, map, refl, sym, ap, ◌∙◌}
 use Rattle.std.specs.Option.{option_map, option_or}
 use Rattle.psa_model.specs.declared.draft.Draft.{Draft}
 use Rattle.psa_model.specs.declared.draft.DraftDefinition.{DraftDefinition}
@@ -9,7 +9,6 @@ use Rattle.psa_names.specs.NameFaults.{bad_groups, bad_references, duplicates, n
 use Rattle.psa_names.specs.Outlines.{Entry, Entries, entries_of, entry_of}
 use Rattle.psa_names.specs.PlacedFaults.{earliest}
 use Rattle.psa_names.specs.declared.error.CheckError.{CheckError}
-use Rattle.psa_names.specs.declared.error.CheckError.TheVariants.{Fault}
 use Rattle.psa_names.specs.declared.found.Found.{Found}
 use Rattle.psa_lookup.specs.Senses.{IsPass}
 use Rattle.psa_lookup.specs.Sooner.{placed_fault}
@@ -37,16 +36,12 @@ fault-first draft None (Some x) bad first p q r is = rw (sym p, sym q) (ap (λ (
 fault-first draft None None (Some x) first p q r is = rw (sym p, sym q, sym r) (ap (λ (y : Placed). Some (placed_fault y).fault) (some-equal x first is))
 fault-first draft None None None first p q r is = absurd (cc)
 
--- errors that are equal tell one fault
-error-same : (found other : ModelFault) → ◌≡◌ {A = Result Found CheckError} (Err (Fault found)) (Err (Fault other)) → found ≡ other
-error-same found other h = cc
-
 -- the fault that is told is the first
-pub told : (draft : Draft) (repeat : Option Placed) (references groups : Pass) (first : Placed) (fault other : ModelFault) → IsChecked draft repeat references groups → option_or (option_or repeat references.first) groups.first ≡ Some first → fault ≡ (placed_fault first).fault
-    → ◌≡◌ {A = Result Found CheckError} (Err (Fault fault)) (Err (Fault other)) → name_fault draft ≡ Some other
-told draft repeat references groups first fault other is at made err =
-    fault-first draft repeat references.first groups.first first is.repeat_is is.references_are.first is.groups_are.first at
-    ∙ ap Some (sym made ∙ error-same fault other err)
+pub told : (draft : Draft) (repeat : Option Placed) (references groups : Pass) (first : Option Placed) (other : ModelFault) → IsChecked draft repeat references groups → option_or (option_or repeat references.first) groups.first ≡ first
+    → option_map (λ (one : Placed). (placed_fault one).fault) first ≡ Some other → name_fault draft ≡ Some other
+told draft repeat references groups (Some first) other is at told_as =
+    fault-first draft repeat references.first groups.first first is.repeat_is is.references_are.first is.groups_are.first at ∙ told_as
+told draft repeat references groups None other is at told_as = absurd (cc)
 
 -- none of three is there
 none-or : (a b c : Option Placed) → option_or (option_or a b) c ≡ None → (a ≡ None) × (b ≡ None) × (c ≡ None)
@@ -73,6 +68,18 @@ all-found draft repeat references groups found is none at in_groups =
       references = ap (map (meaning_of_sense (entries_of draft))) at ∙ is.references_are.all names.no_bad_reference;
       members = ap (map (meaning_of_sense (entries_of draft))) in_groups ∙ is.groups_are.all names.no_bad_group;
     }
+
+-- where all was found, there was no fault
+pub named-where-found : (draft : Draft) (repeat : Option Placed) (references groups : Pass) (first : Option Placed) (result : Result Found CheckError) → IsChecked draft repeat references groups → option_or (option_or repeat references.first) groups.first ≡ first
+    → IfOk result (λ found. (first ≡ None) × (found.references ≡ references.senses) × (found.members ≡ groups.senses)) → OnOk result (HasNames draft)
+named-where-found draft repeat references groups first (Ok found) is at h = no-faults-named draft repeat references groups is (at ∙ h.0)
+named-where-found draft repeat references groups first (Err e) is at h = tt
+
+-- and what was found is all
+pub found-where-found : (draft : Draft) (repeat : Option Placed) (references groups : Pass) (first : Option Placed) (result : Result Found CheckError) → IsChecked draft repeat references groups → option_or (option_or repeat references.first) groups.first ≡ first
+    → IfOk result (λ found. (first ≡ None) × (found.references ≡ references.senses) × (found.members ≡ groups.senses)) → IfOk result (IsFound draft)
+found-where-found draft repeat references groups first (Ok found) is at h = all-found draft repeat references groups found is (at ∙ h.0) h.1 h.2
+found-where-found draft repeat references groups first (Err e) is at h = tt
 
 -- ---- definitions and their entries
 

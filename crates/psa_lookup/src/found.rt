@@ -1,4 +1,5 @@
-ghost use Rattle.std.specs.Prelude.{◌≡◌, Err, Some, IfOk, OnOk};
+ghost use Rattle.std.specs.Prelude.{◌≡◌, Err, None, Some, IfOk, OnOk};
+ghost use Rattle.std.specs.Option.{option_map};
 ghost use Rattle.psa_model.specs.Drafts.{IsDraft};
 ghost use Rattle.psa_model.specs.declared.fault.ModelFault.{ModelFault};
 ghost use Rattle.psa_names.specs.Found.{HasNames, IsFound};
@@ -9,8 +10,8 @@ use crate::groups::check_groups;
 use crate::lookup::look_up;
 use crate::placed::Placed;
 use psa_model::{Draft, ModelFault};
-use psa_names::{CheckError, Found};
-use psa_text::{OutOfMemory, Text};
+use psa_names::{CheckError, Found, Sense};
+use psa_text::{Items, OutOfMemory, Text};
 use std::alloc::Global;
 
 /// A fault as it is told.
@@ -23,6 +24,27 @@ fn model_fault(alloc: Global, placed: Placed) -> Result<ModelFault, OutOfMemory>
         line: placed.place.line,
         name: Text::from_str(alloc, placed.name.as_str())?,
     })
+}
+
+/// What was found, or the first fault.
+fn concluded(
+    alloc: Global,
+    first: Option<Placed>,
+    references: Items<Sense>,
+    members: Items<Sense>,
+) -> Result<Found, CheckError>
+    ensures found { IfOk result (λ found. (first.entry ≡ None)
+        × (found.references ≡ references) × (found.members ≡ members)) }
+    ensures fault { (fault : ModelFault) → result ≡ Err (CheckError.Fault fault)
+        → option_map (λ one. (placed_fault one).fault) first.entry ≡ Some fault }
+{
+    match first {
+        Some(first) => Err(CheckError::Fault(model_fault(alloc, first)?)),
+        None => Ok(Found {
+            references,
+            members,
+        }),
+    }
 }
 
 /// What the names of a draft stand for, or its first fault of the first three checks: a name that
@@ -39,11 +61,6 @@ pub fn find_names(alloc: Global, draft: &Draft) -> Result<Found, CheckError>
 {
     let looked = look_up(alloc, draft)?;
     let groups = check_groups(alloc, &looked.names)?;
-    match looked.repeat.or(looked.references.first).or(groups.first) {
-        Some(first) => Err(CheckError::Fault(model_fault(alloc, first)?)),
-        None => Ok(Found {
-            references: looked.references.senses,
-            members: groups.senses,
-        }),
-    }
+    let first = looked.repeat.or(looked.references.first).or(groups.first);
+    concluded(alloc, first, looked.references.senses, groups.senses)
 }
