@@ -38,7 +38,7 @@ literals-joined expanded ranks [] some = absurd (omega (arith, some))
 literals-joined expanded ranks (literal ∷ literals) some = separated-join (literal_text expanded ranks) (literals_of (literal ∷ literals))
 
 -- the text of a literal: its sign, and the text of its event
-literal-text : (expanded : Expanded) (ranks : List EventNumber) (literal : Literal)
+pub literal-text : (expanded : Expanded) (ranks : List EventNumber) (literal : Literal)
     → literal_text expanded ranks (literal_number literal.rank literal.occurs) ≡ (if literal.occurs then [] else codes "~") ++ ranked_text expanded ranks literal.rank
 literal-text expanded ranks literal = rw (positive-literal literal.rank literal.occurs, rank-literal literal.rank literal.occurs) refl
 

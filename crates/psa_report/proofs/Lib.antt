@@ -1,4 +1,5 @@
 pub mod WrittenLemmas
 pub mod JoinedLemmas
+pub mod LineLemmas
 pub mod PartLemmas
 pub mod HeadLemmas

@@ -1,3 +1,4 @@
 pub mod Pieces
 pub mod Joined
 pub mod Head
+pub mod Lines

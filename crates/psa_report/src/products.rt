@@ -92,7 +92,7 @@ fn write_joined<S: Sink>(
 }
 
 /// What stands before the name of an event that occurs, or does not.
-fn sign(occurs: bool) -> &'static str
+pub(crate) fn sign(occurs: bool) -> &'static str
     ensures { result.now ≡ (if occurs then [] else codes "~") }
 {
     if occurs { "" } else { "~" }

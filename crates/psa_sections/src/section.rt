@@ -19,7 +19,7 @@ use psa_nodes::{NodeId, NodeTable, Steps};
 use psa_number::{Interval, interval_of};
 use psa_ports::Sink;
 use psa_products::{Listing, Rule, Totals, bound};
-use psa_report::{WriteFault, write_product, write_target, write_totals};
+use psa_report::{ProductLines, WriteFault, write_target, write_totals};
 use std::sync::ledger::Ledger;
 
 /// What a section is about, and what the lines of its products are written by.
@@ -94,10 +94,12 @@ fn write_listed<S: Sink, R: Rule, L: Ledger>(
     ensures totals { OnOk result (totals.new
         ≡ totals_by subject.now.values.now subject.now.ranks.now listing.old) }
 {
-    while let Some(product) = listing.next(steps) {
+    let mut lines = ProductLines::new(subject.expanded, subject.ranks);
+    let mut product = Product::new();
+    while listing.next_into(&mut product, steps) {
         let bound = product_bound(subject.values, subject.ranks, &product);
         let counted = counted_bound(&bound);
-        write_product(out, subject.expanded, subject.ranks, &product, bound)?;
+        lines.write(out, &product, bound)?;
         totals.take(counted);
     }
     Ok(())

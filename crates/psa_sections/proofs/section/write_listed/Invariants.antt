@@ -1,16 +1,17 @@
-use Rattle.std.proofs.Common.{flat_map, length}
+use Rattle.std.proofs.Common.{◌≡◌, flat_map, length}
 use Rattle.psa_report.proofs.WrittenLemmas.{Left}
 use Rattle.psa_sections.specs.Writing.{line_by}
 use Rattle.psa_sections.proofs.SectionLemmas.{AreDone}
 use Rattle.psa_sections.proofs.section.write_listed.Given as goal
 
-abbrev pub invariant-loop-product : goal.invariant-loop-product
-invariant-loop-product g l = record {
+abbrev pub invariant-loop-lines : goal.invariant-loop-lines
+invariant-loop-lines g l = record {
+  naming : l.lines ≡ record { expanded = l.subject.expanded.now; ranks = l.subject.ranks.now };
   totals : AreDone l.subject.values.now l.subject.ranks.now l.fn.listing l.listing l.totals;
   lines : Left (g.S.Sink.written l.fn.out) (g.S.Sink.written l.out) (g.S.Sink.faults l.fn.out) (g.S.Sink.faults l.out)
       (flat_map (line_by l.subject.expanded.now l.subject.values.now l.subject.ranks.now) l.listing)
       (flat_map (line_by l.subject.expanded.now l.subject.values.now l.subject.ranks.now) l.fn.listing);
 }
 
-abbrev pub decreases-loop-product : goal.decreases-loop-product
-decreases-loop-product g l = length l.listing
+abbrev pub decreases-loop-lines : goal.decreases-loop-lines
+decreases-loop-lines g l = length l.listing
