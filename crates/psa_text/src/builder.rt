@@ -1,4 +1,4 @@
-ghost use Rattle.std.specs.Prelude.{◌≡◌, [], Some};
+ghost use Rattle.std.specs.Prelude.{◌≡◌, [], IfOk, Some};
 ghost use Rattle.psa_text.specs.declared.builder.StepError.TheVariants.{Memory};
 ghost use Rattle.psa_text.specs.Steps.{Gives};
 ghost use Rattle.psa_text.specs.Tree.{element_of};
@@ -10,6 +10,9 @@ use crate::scanner::item::Item;
 use crate::tag::Tag;
 use crate::{Element, Items, OutOfMemory};
 use std::alloc::Global;
+
+/// The longest list that is copied to have exactly the room that it needs.
+const MAX_COPIED: usize = 64;
 
 /// Why a step was not made: the text does not allow it, or memory ran out.
 #[derive(Debug, Drop)]
@@ -54,7 +57,7 @@ impl Builder {
         match item {
             Item::Start(tag) => self.open(alloc, tag, line),
             Item::Empty(tag) => self.open_and_close(alloc, tag, line),
-            Item::End(name) => self.close(name.as_bytes()),
+            Item::End(name) => self.close(alloc, name.as_bytes()),
             Item::Doctype if self.has_begun() => Err(StepError::Refused),
             Item::Text(byte) if !self.is_in_label() && !is_blank(byte) => Err(StepError::Refused),
             Item::Doctype | Item::Text(_) | Item::Comment | Item::Instruction => Ok(()),
@@ -113,7 +116,7 @@ impl Builder {
         self.place(new_element(alloc, tag, line))
     }
 
-    fn close(&mut self, name: &[u8]) -> Result<(), StepError>
+    fn close(&mut self, alloc: Global, name: &[u8]) -> Result<(), StepError>
         ensures { Gives (λ _. state_of self.new) result
             (nesting_after_end name.now (state_of self.old)) }
     {
@@ -123,7 +126,7 @@ impl Builder {
         if element.tag.as_bytes() != name {
             return Err(StepError::Refused);
         }
-        self.place(element)
+        self.place(ended(alloc, element)?)
     }
 
     /// Puts a whole element where it belongs: last in the innermost open element, or as the root.
@@ -140,6 +143,38 @@ impl Builder {
         }
         Ok(())
     }
+}
+
+/// The element at its end, with exactly the room that its children need.
+fn ended(alloc: Global, element: Element) -> Result<Element, OutOfMemory>
+    ensures { IfOk result (λ made. made ≡ element) }
+{
+    let Element {
+        tag,
+        line,
+        attributes,
+        children,
+    } = element;
+    Ok(Element {
+        tag,
+        line,
+        attributes,
+        children: with_exact_room(alloc, children)?,
+    })
+}
+
+/// The list with exactly the room that it needs. One of more than [`MAX_COPIED`] items stays as it
+/// is: the memory behind its last item has never been touched.
+fn with_exact_room<T: Drop>(alloc: Global, items: Items<T>) -> Result<Items<T>, OutOfMemory>
+    ensures { IfOk result (λ made. made ≡ items) }
+{
+    let count = items.len();
+    if count > MAX_COPIED {
+        return Ok(items);
+    }
+    let mut exact = Items::from_vec(Vec::with_capacity(alloc, count)?);
+    exact.append(items)?;
+    Ok(exact)
 }
 
 /// The element that a tag begins, with nothing in it.
