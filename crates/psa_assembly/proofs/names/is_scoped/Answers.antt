@@ -1,4 +1,4 @@
-use Rattle.std.proofs.Common.{◌≡◌, Bool, sym, ap}
+use Rattle.std.proofs.Common.{◌≡◌, sym, ap}
 use Rattle.psa_model.specs.declared.draft.DefinitionKind.{DefinitionKind}
 use Rattle.psa_names.specs.NameSpaces.{family_of, is_scoped}
 use Rattle.psa_assembly.proofs.names.is_scoped.Goals as goal

@@ -1,9 +1,8 @@
-use Rattle.std.proofs.Common.{◌≡◌, ◌<◌, ◌+◌, ℕ, List, length, get_or, refl, sym, ap, ◌∙◌, eqb, cond, inl, inr, arith}
+use Rattle.std.proofs.Common.{◌≡◌, ◌<◌, ◌+◌, ℕ, List, length, get_or, sym, ap, ◌∙◌, eqb, cond, inl, inr, arith}
 use Rattle.std.proofs.Math.ListN.{set}
 use Rattle.std.proofs.lemmas.Bool.{cases_Bool, eqb-true, eq-eqb, false≢true}
 use Rattle.std.proofs.lemmas.Grind.{get_or-set_at}
 use Rattle.std.proofs.lemmas.List.{get_or-set_other, length-set}
-use Rattle.psa_assembly.specs.Counts.{Counted}
 use Rattle.psa_assembly.proofs.numbering.count_at.Goals as goal
 
 counted-at : (xs : List ℕ) (at k : ℕ) → at < length xs → get_or (set xs at (get_or xs at 0 + 1)) k 0 ≡ get_or xs k 0 + cond (eqb at k) 1 0
