@@ -122,16 +122,16 @@ module _ (settings : Settings) (run : Run) (answer : Result Loaded LoadError) (o
   pub memory-complete : Completeness settings run (status_of Memory)
   memory-complete = record { refused = λ none fault. inr refl; reported = λ none has. inr refl }
 
-  module _ (loaded : Loaded) (is : answer ≡ Ok loaded) (well : IsTable run.table) where
+  module _ (loaded : Loaded) (is : answer ≡ Ok loaded) (table : Table) (well : IsTable table) where
     parts : (loaded.settings ≡ settings) × Analysed settings run.told (λ analysis. loaded_analysis loaded ≡ analysis)
     parts = let p = outcome.ok loaded is in (p.0, p.2)
 
     -- the limit counts more readings than stand nodes
-    never-full : (number : ℕ) → loaded.settings.validate ≡ false → run.table.limit ≡ loaded.settings.node_limit → IsFullReport (loaded_analysis loaded) number run.table run.before run.after → HasAnalysis settings run (IsWithinLimit settings) → ⊥
+    never-full : (number : ℕ) → loaded.settings.validate ≡ false → table.limit ≡ loaded.settings.node_limit → IsFullReport (loaded_analysis loaded) number table run.before run.after → HasAnalysis settings run (IsWithinLimit settings) → ⊥
     never-full number shows limit full has = of run.told parts.1 has
       where
-        node-limit : settings.node_limit ≡ Some (length run.table.nodes)
-        node-limit = subst (λ (s : Settings). s.node_limit ≡ Some (length run.table.nodes)) parts.0 (sym limit ∙ full.refusal.full)
+        node-limit : settings.node_limit ≡ Some (length table.nodes)
+        node-limit = subst (λ (s : Settings). s.node_limit ≡ Some (length table.nodes)) parts.0 (sym limit ∙ full.refusal.full)
 
         shows-too : settings.validate ≡ false
         shows-too = subst (λ (s : Settings). s.validate ≡ false) parts.0 shows
@@ -139,8 +139,8 @@ module _ (settings : Settings) (run : Run) (answer : Result Loaded LoadError) (o
         within : (analysis : Analysis) → loaded_analysis loaded ≡ analysis → IsWithinLimit settings analysis → ⊥
         within analysis same (inl checks) = false≢true (sym shows-too ∙ checks)
         within analysis same (inr most) =
-            not-within (loaded_analysis loaded) number run.table run.before run.after well full
-            (subst (λ (a : Analysis). AtMost (length run.table.nodes) a (all_targets a)) (sym same)
+            not-within (loaded_analysis loaded) number table run.before run.after well full
+            (subst (λ (a : Analysis). AtMost (length table.nodes) a (all_targets a)) (sym same)
             (subst (λ (o : Option ℕ). IfSome o (λ limit. AtMost limit analysis (all_targets analysis))) node-limit most))
 
         of : (told : Option Told) → Analysed settings told (λ analysis. loaded_analysis loaded ≡ analysis) → IsSomeAnd told (λ files. (analysis : Analysis) × IsAnalysis settings (names_of settings.input) files analysis × IsWithinLimit settings analysis) → ⊥
@@ -153,12 +153,12 @@ module _ (settings : Settings) (run : Run) (answer : Result Loaded LoadError) (o
     never-refused : (ReadRose run → ⊥) → HasFault settings run → ⊥
     never-refused none fault = fault-told (⊥) none fault (λ found p. absurd (cc)) (λ p. absurd (cc))
 
-    reported-at : (end : End) → EndsLoaded (loaded_analysis loaded) run.table run.out_faults run.before run.after end → NoFaultRose run → HasAnalysis settings run (IsWithinLimit settings) → (status_of end ≡ status.Done) ⊎ (status_of end ≡ status.OutOfMemory)
+    reported-at : (end : End) → EndsLoaded (loaded_analysis loaded) table run.out_faults run.before run.after end → NoFaultRose run → HasAnalysis settings run (IsWithinLimit settings) → (status_of end ≡ status.Done) ⊎ (status_of end ≡ status.OutOfMemory)
     reported-at Done (checked checks unchanged) none has = inl refl
     reported-at Memory (unbegun unchanged) none has = inr refl
     reported-at _ (shown end shows limit r) none has = of end r
       where
-        of : (end : End) → EndsShown (loaded_analysis loaded) run.table run.out_faults run.before run.after end → (status_of end ≡ status.Done) ⊎ (status_of end ≡ status.OutOfMemory)
+        of : (end : End) → EndsShown (loaded_analysis loaded) table run.out_faults run.before run.after end → (status_of end ≡ status.Done) ⊎ (status_of end ≡ status.OutOfMemory)
         of Done r = inl refl
         of (Bad fault file) r = absurd r
         of (Read number) r = absurd r
@@ -166,6 +166,6 @@ module _ (settings : Settings) (run : Run) (answer : Result Loaded LoadError) (o
         of (Full number) r = absurd (never-full number shows limit r has)
         of Memory r = inr refl
 
-    pub loaded-complete : (end : End) → EndsLoaded (loaded_analysis loaded) run.table run.out_faults run.before run.after end → Completeness settings run (status_of end)
+    pub loaded-complete : (end : End) → EndsLoaded (loaded_analysis loaded) table run.out_faults run.before run.after end → Completeness settings run (status_of end)
     loaded-complete end ends =
         record { refused = λ none fault. absurd (never-refused none fault); reported = λ none has. reported-at end ends none has }

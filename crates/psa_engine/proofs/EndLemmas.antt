@@ -29,7 +29,7 @@ use Rattle.psa_report.specs.Pieces.{Writes}
 use Rattle.psa_sections.specs.Reports.{HasReport, IsFullReport}
 use Rattle.psa_words.specs.declared.fault.WordsError.{WordsError}
 use Rattle.psa_words.specs.declared.fault.WordsError.TheVariants as words
-use Rattle.psa_words.specs.Refused.{refused_words_text}
+use Rattle.psa_words.specs.Refused.{refused_text}
 use Rattle.psa_engine.specs.declared.end.End.{End}
 use Rattle.psa_engine.specs.declared.end.End.TheVariants.{Done, Bad, Read, Write, Full, Memory}
 use Rattle.psa_engine.specs.Ends.{EndsLoaded, checked, unbegun, shown, EndsShown, IsRefusedModel, PassesOn, line_of, name_in_input, refusal_status, refusal_text, status_of}
@@ -120,7 +120,7 @@ get-middle : (before : List (List ℕ)) (x : List ℕ) (behind : List (List ℕ)
 get-middle [] x behind = refl
 get-middle (y ∷ before) x behind = get-middle before x behind
 
-module _ (settings : Settings) (run : Run) where
+module _ (settings : Settings) (run : Run) (table : Table) where
   -- what holds of the analysis that was loaded, where the files are told
   over : (x : Analysis) → Analysed settings run.told (λ analysis. x ≡ analysis) → (P : Analysis → Type 0) → ((roots : List Element) → analysis_of settings roots ≡ Ok x → P x) → Analysed settings run.told P
   over x analysed P f = of run.told analysed
@@ -137,10 +137,10 @@ module _ (settings : Settings) (run : Run) where
     of-settings : (P : Settings → Type 0) → P loaded.settings → P settings
     of-settings P p = subst P same p
 
-    done-checked : loaded.settings.validate ≡ true → run.after ≡ run.before → RunOutcome settings run [] (status_of Done)
+    done-checked : loaded.settings.validate ≡ true → run.after ≡ run.before → RunOutcome settings run table [] (status_of Done)
     done-checked checks unchanged = record {
       silent = refl;
-      finished = over analysis analysed (IsFinished run) (λ roots is. record {
+      finished = over analysis analysed (IsFinished run table) (λ roots is. record {
         reported = record {
           text = [];
           is_report = validated checks;
@@ -151,10 +151,10 @@ module _ (settings : Settings) (run : Run) where
       });
     }
 
-    done-shown : HasReport analysis run.table run.before run.after → RunOutcome settings run [] (status_of Done)
+    done-shown : HasReport analysis table run.before run.after → RunOutcome settings run table [] (status_of Done)
     done-shown r = record {
       silent = refl;
-      finished = over analysis analysed (IsFinished run) (λ roots is. record {
+      finished = over analysis analysed (IsFinished run table) (λ roots is. record {
         reported = record {
           text = r.text;
           is_report = r.is_report;
@@ -165,7 +165,7 @@ module _ (settings : Settings) (run : Run) where
       });
     }
 
-    at-shown : (end : End) → loaded.settings.validate ≡ false → run.table.limit ≡ loaded.settings.node_limit → EndsShown analysis run.table run.out_faults run.before run.after end → RunOutcome settings run (line_of settings end) (status_of end)
+    at-shown : (end : End) → loaded.settings.validate ≡ false → table.limit ≡ loaded.settings.node_limit → EndsShown analysis table run.out_faults run.before run.after end → RunOutcome settings run table (line_of settings end) (status_of end)
     at-shown Done shows limit r = done-shown r
     at-shown (Bad fault file) shows limit r = absurd r
     at-shown (Read number) shows limit r = absurd r
@@ -179,11 +179,11 @@ module _ (settings : Settings) (run : Run) where
       from_one = let e : suc (length r.stopped.earlier) ≡ number = r.stopped.place in omega arith;
       writes = of-settings (λ (s : Settings). s.validate ≡ false) shows;
       full = record {
-        limit = of-settings (λ (s : Settings). s.node_limit ≡ Some (length run.table.nodes)) (sym limit ∙ r.refusal.full);
+        limit = of-settings (λ (s : Settings). s.node_limit ≡ Some (length table.nodes)) (sym limit ∙ r.refusal.full);
         triple = r.triple;
         refused = r.last;
       };
-      stopped = over analysis analysed (λ a. IsStopped a number run.table r.triple run.before run.after) (λ roots is. r.stopped);
+      stopped = over analysis analysed (λ a. IsStopped a number table r.triple run.before run.after) (λ roots is. r.stopped);
       spelled = refl;
     }
     at-shown Memory shows limit r = record {
@@ -192,13 +192,13 @@ module _ (settings : Settings) (run : Run) where
     }
 
     -- the row of a run whose input was loaded
-    pub loaded-row : (end : End) → EndsLoaded analysis run.table run.out_faults run.before run.after end → RunOutcome settings run (line_of settings end) (status_of end)
+    pub loaded-row : (end : End) → EndsLoaded analysis table run.out_faults run.before run.after end → RunOutcome settings run table (line_of settings end) (status_of end)
     loaded-row Done (checked checks unchanged) = done-checked checks unchanged
     loaded-row Memory (unbegun unchanged) = record { reported = inl unchanged; spelled = refl }
     loaded-row _ (shown end shows limit r) = at-shown end shows limit r
 
   -- the row of a run whose model has a fault
-  pub bad-row : (fault : ModelFault) (end : End) → run.after ≡ run.before → IsBadModel settings run.told fault → IsRefusedModel settings fault end → RunOutcome settings run (line_of settings end) (status_of end)
+  pub bad-row : (fault : ModelFault) (end : End) → run.after ≡ run.before → IsBadModel settings run.told fault → IsRefusedModel settings fault end → RunOutcome settings run table (line_of settings end) (status_of end)
   bad-row fault Done unchanged cause refused = absurd refused
   bad-row fault (Bad found file) unchanged cause (same, name) = record {
     unchanged = unchanged;
@@ -212,7 +212,7 @@ module _ (settings : Settings) (run : Run) where
   bad-row fault Memory unchanged cause refused = record { reported = inl unchanged; spelled = refl }
 
   -- the row of a run that could not read a file
-  pub read-row : (number : ℕ) → run.after ≡ run.before → ReadRose run → suc number ≡ run.opened → IsUnread settings run.told run.rest number → RunOutcome settings run (line_of settings (Read number)) (status_of (Read number))
+  pub read-row : (number : ℕ) → run.after ≡ run.before → ReadRose run → suc number ≡ run.opened → IsUnread settings run.told run.rest number → RunOutcome settings run table (line_of settings (Read number)) (status_of (Read number))
   read-row number unchanged rose last cause = record {
     rose = rose;
     unchanged = unchanged;
@@ -228,7 +228,7 @@ module _ (settings : Settings) (run : Run) where
           (subst (λ n. slice_get (u.before ++ u.file ∷ u.behind) n ≡ Some u.file) u.place (get-middle u.before u.file u.behind))
 
   -- the row of a run without memory to load
-  pub memory-row : run.after ≡ run.before → RunOutcome settings run (line_of settings Memory) (status_of Memory)
+  pub memory-row : run.after ≡ run.before → RunOutcome settings run table (line_of settings Memory) (status_of Memory)
   memory-row unchanged = record { reported = inl unchanged; spelled = refl }
 
 -- what was loaded ends neither with a fault of the model nor with one of a file
@@ -248,6 +248,6 @@ grew-by {E} text faults later before after (Ok done) w = record { prefix = w.par
 grew-by {E} text faults later before after (Err error) w = record { prefix = w.part; whole = λ none. absurd (none w.cause.failed) }
 
 -- the text where words give no settings is that of its status
-pub refusal-of : (error : WordsError) → IsRefusal refused_words_text (refusal_status error) (refusal_text error)
-refusal-of words.BadWords = bad_words
-refusal-of words.Memory = out_of_memory
+pub refusal-of : (program : List ℕ) (error : WordsError) → IsRefusal (refused_text program) (refusal_status error) (refusal_text program error)
+refusal-of program words.BadWords = bad_words
+refusal-of program words.Memory = out_of_memory

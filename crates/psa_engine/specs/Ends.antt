@@ -17,7 +17,7 @@ use Rattle.psa_ports.specs.Counts.{Rose}
 use Rattle.psa_sections.specs.Reports.{HasReport, IsFullReport}
 use Rattle.psa_words.specs.declared.fault.WordsError.{WordsError}
 use Rattle.psa_words.specs.declared.fault.WordsError.TheVariants as words
-use Rattle.psa_words.specs.Refused.{refused_words_text}
+use Rattle.psa_words.specs.Refused.{refused_text}
 use Rattle.psa_engine.specs.declared.end.End.{End}
 use Rattle.psa_engine.specs.declared.end.End.TheVariants.{Done, Bad, Read, Write, Full, Memory}
 
@@ -26,9 +26,9 @@ abbrev pub refusal_status : WordsError → Status
 refusal_status words.BadWords = status.BadWords
 refusal_status words.Memory = status.OutOfMemory
 
-abbrev pub refusal_text : WordsError → List ℕ
-refusal_text words.BadWords = refused_words_text
-refusal_text words.Memory = out_of_memory_line
+abbrev pub refusal_text : List ℕ → WordsError → List ℕ
+refusal_text program words.BadWords = refused_text program
+refusal_text program words.Memory = out_of_memory_line
 
 -- the name of the file with this number
 abbrev pub name_in_input : Input → ℕ → List ℕ

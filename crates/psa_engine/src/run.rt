@@ -58,12 +58,12 @@ pub fn analyse_words<F: Folder, O: Sink, E: Sink>(
     ensures outcome { IfSome (settings_of (map string_bytes words.now.items)) (λ settings.
         (line : List ℕ) × RunOutcome settings (run_of settings (F.texts files.old) (F.rest files.new)
         (F.opens files.new - F.opens files.old) (F.faults files.old, F.faults files.new)
-        (O.faults out.old, O.faults out.new) (O.written out.old) (O.written out.new) table.new) line result
+        (O.faults out.old, O.faults out.new) (O.written out.old) (O.written out.new)) table.new line result
         × GrewBy line (E.faults err.old, E.faults err.new) (E.written err.old) (E.written err.new)) }
     ensures completeness { IfSome (settings_of (map string_bytes words.now.items)) (λ settings.
         Completeness settings (run_of settings (F.texts files.old) (F.rest files.new)
         (F.opens files.new - F.opens files.old) (F.faults files.old, F.faults files.new)
-        (O.faults out.old, O.faults out.new) (O.written out.old) (O.written out.new) table.new) result) }
+        (O.faults out.old, O.faults out.new) (O.written out.old) (O.written out.new)) result) }
 
     // What a run leaves alone.
     ensures unopened { IfSome (settings_of (map string_bytes words.now.items)) (λ settings.
@@ -89,7 +89,7 @@ pub fn analyse_words<F: Folder, O: Sink, E: Sink>(
             tell(err, &settings, &end);
             end.status()
         }
-        Err(error) => refuse(err, error),
+        Err(error) => refuse(err, "scram", error),
     }
 }
 
@@ -108,11 +108,11 @@ fn run<F: Folder, O: Sink>(
 
     ensures outcome { RunOutcome settings.now (run_of settings.now (F.texts files.old) (F.rest files.new)
         (F.opens files.new - F.opens files.old) (F.faults files.old, F.faults files.new)
-        (O.faults out.old, O.faults out.new) (O.written out.old) (O.written out.new) table.new)
+        (O.faults out.old, O.faults out.new) (O.written out.old) (O.written out.new)) table.new
         (line_of settings.now result) (status_of result) }
     ensures completeness { Completeness settings.now (run_of settings.now (F.texts files.old) (F.rest files.new)
         (F.opens files.new - F.opens files.old) (F.faults files.old, F.faults files.new)
-        (O.faults out.old, O.faults out.new) (O.written out.old) (O.written out.new) table.new)
+        (O.faults out.old, O.faults out.new) (O.written out.old) (O.written out.new))
         (status_of result) }
     ensures unopened { IsSample settings.now.input → files.new ≡ files.old }
     ensures quiet { settings.now.validate ≡ true → (out.new ≡ out.old) × (table.new ≡ table.old) }
@@ -138,7 +138,7 @@ fn run<F: Folder, O: Sink>(
 }
 
 /// The end where the model has a fault.
-fn refuse_model(alloc: Global, settings: &Settings, fault: ModelFault) -> End
+pub fn refuse_model(alloc: Global, settings: &Settings, fault: ModelFault) -> End
     ensures { IsRefusedModel settings.now fault result }
 {
     match Text::from_str(alloc, file_name(&settings.input, fault.file)) {
@@ -177,7 +177,7 @@ fn run_loaded<O: Sink>(alloc: Global, loaded: &Loaded, out: &mut O, table: &mut 
 }
 
 /// Passes on what a sink has kept back when a run ends; the end where it fails is that of a failed write.
-fn pass_on<O: Sink>(out: &mut O, end: End) -> End
+pub fn pass_on<O: Sink>(out: &mut O, end: End) -> End
     ensures end { PassesOn (O.faults out.old, O.faults out.new) (O.written out.old) (O.written out.new)
         end result }
     ensures passed { passes_on (status_of result) ≡ true → O.waiting out.new ≡ [] }

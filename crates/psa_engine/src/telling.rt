@@ -17,16 +17,16 @@ const OUT_OF_MEMORY: &str = "scram: out of memory\n";
 
 /// Tells on `err` that the words are refused, or that memory was wanting to read them. That `err` fails changes
 /// nothing.
-pub fn refuse<E: Sink>(err: &mut E, error: WordsError) -> Status
+pub fn refuse<E: Sink>(err: &mut E, program: &str, error: WordsError) -> Status
     ensures status { result ≡ refusal_status error }
-    ensures line { GrewBy (refusal_text error) (E.faults err.old, E.faults err.new)
+    ensures line { GrewBy (refusal_text program.now error) (E.faults err.old, E.faults err.new)
         (E.written err.old) (E.written err.new) }
 {
     match error {
         WordsError::BadWords => {
             let _ = put_all(
                 err,
-                &["scram: bad words\n", "usage: scram [options] FILE...\n"],
+                &["scram: bad words\n", "usage: ", program, " [options] FILE...\n"],
             );
             Status::BadWords
         }

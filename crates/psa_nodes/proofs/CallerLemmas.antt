@@ -12,3 +12,4 @@ pub use Rattle.psa_nodes.proofs.CofactorLemmas.{assigned-past, high-cofactor, lo
 pub use Rattle.psa_nodes.proofs.BoundedLemmas.{bounded-none, bounded-at, bounded-cons, bounded-made}
 pub use Rattle.psa_nodes.proofs.MemberLemmas.{AreAbove, above-stands, above-head, stands-above}
 pub use Rattle.psa_nodes.proofs.TailLemmas.{tail-own, own-tails, IsSideOf, tails-of-side, tails-in, side-call, exit-call, last-call}
+pub use Rattle.psa_nodes.proofs.SizeLemmas.{joined-member, has-one}

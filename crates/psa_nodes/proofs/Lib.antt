@@ -3,6 +3,7 @@ pub mod GrownLemmas
 pub mod NodeAtLemmas
 pub mod TruthLemmas
 pub mod FamilyLemmas
+pub mod SizeLemmas
 pub mod CanonicalLemmas
 pub mod EqualityLemmas
 pub mod PlaceLemmas

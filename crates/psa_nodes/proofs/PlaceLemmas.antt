@@ -4,6 +4,7 @@ use Rattle.std.proofs.lemmas.List.{reverse-append, reverse-reverse, length-rever
 use Rattle.std.proofs.lemmas.Bool.{cases_Bool}
 use Rattle.std.proofs.lemmas.Bool.Decides.{eqb_tells}
 use Rattle.std.specs.List.{list_any}
+use Rattle.std.specs.Option.{option_to_list}
 use lib.Dec.{eqb-suc-suc}
 use Rattle.indexmap.specs.IndexSet.{insert_key}
 use Rattle.psa_nodes.specs.declared.node.Node.{Node}
@@ -88,3 +89,17 @@ some_node ns id h = by (node_at ns id) refl h
     by : (o : Option Node) → node_at ns id ≡ o → IsSome o → (m : Node) × (node_at ns id ≡ Some m)
     by None e s = absurd (true≢false (sym s))
     by (Some m) e s = (m, e)
+
+-- where a node is in the set already, and where it is not
+pub inserted-same : (keys now : List Node) (n : Node) → now ≡ insert_key node_eq keys n → list_any (node_eq n) keys ≡ true → reverse now ≡ reverse keys
+inserted-same keys now n e there = let same = rw there at e in ap reverse same
+
+pub inserted-new : (keys now : List Node) (n : Node) → now ≡ insert_key node_eq keys n → list_any (node_eq n) keys ≡ false → now ≡ keys ++ n ∷ []
+inserted-new keys now n e absent = rw absent at e
+
+-- the last node is taken away again
+pub popped-same : (keys now : List Node) (n : Node) (last : Option Node) → keys ++ n ∷ [] ≡ now ++ option_to_list last → IsSome last → reverse now ≡ reverse keys
+popped-same keys now n None e some = absurd (true≢false (sym some))
+popped-same keys now n (Some m) e some =
+    let turned : n ∷ reverse keys ≡ m ∷ reverse now = sym (reverse-push keys n) ∙ ap reverse e ∙ reverse-push now m in
+    cc

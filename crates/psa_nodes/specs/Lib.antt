@@ -1,5 +1,6 @@
 pub mod Readings
 pub mod Nodes
+pub mod Sizes
 pub mod Families
 pub mod Operations
 pub mod Table

@@ -8,6 +8,7 @@ use Rattle.psa_nodes.specs.declared.node.NodeError.{NodeError}
 use Rattle.psa_nodes.specs.declared.node.NodeError.TheVariants.{Full, Memory}
 use Rattle.psa_nodes.specs.Readings.{node_at, stands, reading, node_reading, IsSameReading}
 use Rattle.psa_nodes.specs.Nodes.{Fits, AllFit, IsReduced, IsOnly}
+use Rattle.psa_nodes.specs.Sizes.{AreSized}
 use Rattle.psa_nodes.specs.Operations.{operand_kind, result_kind, takes_right, takes_limit, Computes}
 
 -- The nodes are newest first, the remembered entries oldest first.
@@ -58,6 +59,11 @@ pub record IsTable (t : Table) : Type 0 where
   pub different : AreDifferent t.entries
   pub within : IfSome t.limit (λ limit. length t.nodes ≤ limit)
   pub refused : IfSome t.refused (IsRefused t.nodes t.limit)
+
+-- what holds of every table and of the sizes that it keeps beside its nodes
+pub record IsStored (sizes : List ℕ) (t : Table) : Type 0 where
+  pub table : IsTable t
+  pub sized : AreSized t.nodes sizes
 
 -- What asking for a node of this kind, variable and children does to a table, and its answer.
 pub record MakesNode

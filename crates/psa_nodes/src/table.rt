@@ -2,6 +2,8 @@ ghost use Rattle.std.specs.Prelude.{◌≡◌, ◌≢◌, ◌⊎◌, ◌+◌, �
 ghost use Rattle.psa_logic.specs.Sets.{Has};
 ghost use Rattle.psa_nodes.specs.Readings.{node_at, stands};
 ghost use Rattle.psa_nodes.specs.Nodes.{IsNew, IsReduced};
+ghost use Rattle.psa_nodes.specs.Readings.{has, node_reading};
+ghost use Rattle.psa_nodes.specs.Sizes.{AreSized, IsSizedAs, TellsSizes};
 ghost use Rattle.psa_nodes.specs.Table.{table_of, IsRight, Lacks, IsTable, MakesNode};
 
 use crate::node::{Kind, MemoKey, Node, NodeError, NodeId, TERMINALS};
@@ -17,6 +19,8 @@ use std::sync::ledger::Ledger;
 #[derive(Drop)]
 pub struct NodeTable {
     nodes: IndexSet<Node>,
+    /// Of each node of a zero-suppressed diagram the sizes of its members, in the order of the nodes.
+    sizes: Vec<u64>,
     memo: IndexMap<MemoKey, NodeId>,
     limit: Option<u64>,
     refused: Option<Node>,
@@ -24,14 +28,15 @@ pub struct NodeTable {
 
 impl Model for NodeTable {
     ghost use Rattle.std.specs.Prelude.{reverse};
-    ghost use Rattle.psa_nodes.specs.Table.{Table, IsTable, table_of};
+    ghost use Rattle.psa_nodes.specs.Table.{Table, IsStored, table_of};
 
     ghost Value = { Table };
 
     ghost view = { λ t. table_of (reverse t.nodes.keys) t.memo.entries t.limit t.refused };
 
     ghost invariant = { λ t.
-        IsTable (table_of (reverse t.nodes.keys) t.memo.entries t.limit t.refused) };
+        IsStored (reverse t.sizes.items)
+        (table_of (reverse t.nodes.keys) t.memo.entries t.limit t.refused) };
 }
 
 /// The node's place in the set, if it is there.
@@ -44,19 +49,39 @@ fn place(nodes: &IndexSet<Node>, node: Node) -> Option<NodeId>
     Some(NodeId(index as u64 + TERMINALS))
 }
 
-/// Adds the node where it is not in the set, by one look-up.
-fn add(nodes: &mut IndexSet<Node>, node: Node) -> Result<NodeId, NodeError>
+/// Adds the node where it is not in the set, by one look-up, with the sizes of its members.
+fn add(
+    nodes: &mut IndexSet<Node>,
+    sizes: &mut Vec<u64>,
+    node: Node,
+    of_members: u64,
+) -> Result<NodeId, NodeError>
     ensures at { IfOk result (λ id. node_at (reverse nodes.new.keys) id.0 ≡ Some node) }
     ensures added { IfOk result (λ _. (reverse nodes.new.keys ≡ reverse nodes.old.keys)
         ⊎ ((reverse nodes.new.keys ≡ node ∷ reverse nodes.old.keys)
         × IsNew (reverse nodes.old.keys) node)) }
+    ensures sized { AreSized (reverse nodes.old.keys) (reverse sizes.old.items)
+        → IsSizedAs node.kind (node_reading (reverse nodes.old.keys) node).as_family of_members
+        → AreSized (reverse nodes.new.keys) (reverse sizes.new.items) }
     ensures err { OnErr result ((reverse nodes.new.keys ≡ reverse nodes.old.keys)
         × IsNew (reverse nodes.old.keys) node) }
     ensures memory { IfErr result (λ e. e ≡ NodeError.Memory) }
 {
-    let (index, _) = nodes.insert_full(node)?;
+    let Ok((index, is_new)) = nodes.insert_full(node) else {
+        return Err(NodeError::Memory);
+    };
     let _small = nodes.len();
-    Ok(NodeId(index as u64 + TERMINALS))
+    let id = NodeId(index as u64 + TERMINALS);
+    if !is_new {
+        return Ok(id);
+    }
+    match sizes.push(of_members) {
+        Ok(()) => Ok(id),
+        Err(_) => {
+            nodes.pop();
+            Err(NodeError::Memory)
+        }
+    }
 }
 
 impl NodeTable {
@@ -66,6 +91,7 @@ impl NodeTable {
     {
         NodeTable {
             nodes: IndexSet::new(alloc),
+            sizes: Vec::new(alloc),
             memo: IndexMap::new(alloc),
             limit: None,
             refused: None,
@@ -78,6 +104,7 @@ impl NodeTable {
         ensures { self.new ≡ table_of [] [] limit None }
     {
         self.nodes.clear();
+        self.sizes.clear();
         self.memo.clear();
         self.limit = limit;
         self.refused = None;
@@ -128,6 +155,45 @@ impl NodeTable {
         }
     }
 
+    /// How many literals the members of a family have: bit k is set exactly where a member has k literals, for
+    /// each k below 64. Each call counts one turn on `steps`.
+    pub fn sizes<L: Ledger>(&self, id: NodeId, steps: &mut Steps<L>) -> u64
+        requires { stands Kind.Zbdd 0 self.now.nodes id.0 ≡ true }
+        ensures sizes { TellsSizes (has self.now.nodes id.0) result }
+        ensures turn { steps.new ≡ steps.old + 1 }
+        ensures table { IsTable self.now }
+    {
+        steps.tick();
+        self.member_sizes(id)
+    }
+
+    /// The sizes of the members of a family, with no turn.
+    fn member_sizes(&self, id: NodeId) -> u64
+        requires { stands Kind.Zbdd 0 self.now.nodes id.0 ≡ true }
+        ensures sizes { TellsSizes (has self.now.nodes id.0) result }
+        ensures table { IsTable self.now }
+    {
+        let sizes = &self.sizes;
+        if id.0 < TERMINALS {
+            // no member, or the empty set
+            return id.0;
+        }
+        sizes[(id.0 - TERMINALS) as usize]
+    }
+
+    /// The sizes of the members of a triple's family: those of `hi` with one literal more, and those of `lo`.
+    fn node_sizes(&self, node: Node) -> u64
+        requires hi { stands node.kind (node.var + 1) self.now.nodes node.hi.0 ≡ true }
+        requires lo { stands node.kind (node.var + 1) self.now.nodes node.lo.0 ≡ true }
+        ensures { IsSizedAs node.kind (node_reading self.now.nodes node).as_family result }
+    {
+        self.check();
+        match node.kind {
+            Kind::Bdd => 0,
+            Kind::Zbdd => self.member_sizes(node.hi) << 1 | self.member_sizes(node.lo),
+        }
+    }
+
     /// Tells that the table is well formed, and does nothing.
     pub fn check(&self)
         ensures { IsTable self.now }
@@ -154,7 +220,8 @@ impl NodeTable {
         ensures table { IsTable self.new }
     {
         if !self.is_full() {
-            return add(&mut self.nodes, node);
+            let sizes = self.node_sizes(node);
+            return add(&mut self.nodes, &mut self.sizes, node, sizes);
         }
         match place(&self.nodes, node) {
             Some(id) => Ok(id),

@@ -2,6 +2,7 @@
 use Rattle.std.proofs.Common.{◌≡◌, ℕ, List, Option, Some, sym, ap, subst, ◌∙◌}
 use Rattle.std.specs.Prelude.{⊤, Ok, Err, MatchOption}
 use Rattle.psa_text.specs.TextOutcome.{ReadsOnce}
+use Rattle.psa_nodes.specs.Table.{Table}
 use Rattle.psa_model.specs.declared.fault.ModelFault.{ModelFault}
 use Rattle.psa_model.specs.declared.settings.Settings.{Settings}
 use Rattle.psa_model.specs.FaultTexts.{fault_line}
@@ -27,10 +28,10 @@ lines-same once settings run files line other is p q =
         (first-of settings run.told files p.found is p.cause) (first-of settings run.told files q.found is q.cause))
 
 -- no run is both done and told a fault
-pub rows-exclude : ReadsOnce → (settings : Settings) (run : Run) (files : Told) (line other : List ℕ) → run.told ≡ Some files → DoneRow settings run line → BadModelRow settings run other → ⊥
-rows-exclude once settings run files line other is p q = on (subst (λ (o : Option Told). Analysed settings o (IsFinished run)) is p.finished)
+pub rows-exclude : ReadsOnce → (settings : Settings) (run : Run) (table : Table) (files : Told) (line other : List ℕ) → run.told ≡ Some files → DoneRow settings run table line → BadModelRow settings run other → ⊥
+rows-exclude once settings run table files line other is p q = on (subst (λ (o : Option Told). Analysed settings o (IsFinished run table)) is p.finished)
   where
-    on : Analysed settings (Some files) (IsFinished run) → ⊥
+    on : Analysed settings (Some files) (IsFinished run table) → ⊥
     on finished =
         ok-err (outcomes-same once files settings (names_of settings.input) (Ok finished.0) (Err q.found)
         finished.1 (first-of settings run.told files q.found is q.cause))

@@ -16,8 +16,8 @@ use Rattle.psa_outcome.specs.declared.status.Status.TheVariants.{Done, BadModel,
 use Rattle.psa_outcome.specs.Causes.{names_of, Analysed, IsBadModel, IsUnread}
 use Rattle.psa_outcome.specs.Inputs.{IsFirstFault, IsAnalysis}
 use Rattle.psa_outcome.specs.Origins.{Origin, AllFrom, AtMost}
-use Rattle.psa_outcome.specs.Runs.{Run, ReadRose, WriteRose, NoFaultRose, all_targets, Reported, ReportedPart, ReportedFirst, IsOwnTable}
-use Rattle.psa_model.specs.Report.{Analysis}
+use Rattle.psa_outcome.specs.Runs.{Run, ReadRose, WriteRose, NoFaultRose, all_targets, Texts, Wrote, WroteFirst, WrotePart, Reported, ReportedFirst, IsOwnTable}
+use Rattle.psa_model.specs.Report.{Analysis, IsReport}
 
 -- the exit status of the program
 abbrev pub exit_of : Status → ℕ
@@ -50,13 +50,13 @@ out_of_memory_line = codes "scram: out of memory\n"
 -- ---- the rows
 
 -- out grew by the report, and with a target, where more is asked than to validate, the table is the run's own
-pub record IsFinished (run : Run) (analysis : Analysis) : Type 0 where
+pub record IsFinished (run : Run) (table : Table) (analysis : Analysis) : Type 0 where
   pub reported : Reported analysis run.before run.after
-  pub own_table : analysis.settings.validate ≡ false → (all_targets analysis ≡ [] → ⊥) → IsOwnTable analysis run.table
+  pub own_table : analysis.settings.validate ≡ false → (all_targets analysis ≡ [] → ⊥) → IsOwnTable analysis table
 
-pub record DoneRow (settings : Settings) (run : Run) (line : List ℕ) : Type 0 where
+pub record DoneRow (settings : Settings) (run : Run) (table : Table) (line : List ℕ) : Type 0 where
   pub silent : line ≡ []
-  pub finished : Analysed settings run.told (IsFinished run)
+  pub finished : Analysed settings run.told (IsFinished run table)
 
 -- the first fault
 pub record BadModelRow (settings : Settings) (run : Run) (line : List ℕ) : Type 0 where
@@ -74,10 +74,10 @@ pub record ReadFaultRow (settings : Settings) (run : Run) (line : List ℕ) : Ty
   pub cause : IsUnread settings run.told run.rest number
   pub spelled : line ≡ unread_line cause.file
 
-pub record WriteFaultRow (settings : Settings) (run : Run) (line : List ℕ) : Type 0 where
+pub record WriteFaultRow (IsText : Texts) (settings : Settings) (run : Run) (line : List ℕ) : Type 0 where
   pub rose : WriteRose run
   pub writes : settings.validate ≡ false
-  pub reported : Analysed settings run.told (λ analysis. ReportedPart analysis run.before run.after)
+  pub reported : Analysed settings run.told (λ analysis. WrotePart IsText analysis run.before run.after)
   pub spelled : line ≡ unwritten_line
 
 -- as many nodes stand as the option allows, and a triple was refused
@@ -98,32 +98,50 @@ pub record IsStopped (analysis : Analysis) (number : ℕ) (table : Table) (tripl
   pub from_target : Origin analysis target triple.kind triple.var (node_reading table.nodes triple)
   pub reported : ReportedFirst analysis (length earlier) before after
 
-pub record NodeLimitRow (settings : Settings) (run : Run) (number : ℕ) (line : List ℕ) : Type 0 where
+pub record NodeLimitRow (settings : Settings) (run : Run) (table : Table) (number : ℕ) (line : List ℕ) : Type 0 where
   pub from_one : 0 < number
   pub writes : settings.validate ≡ false
-  pub full : IsTableFull settings run.table
-  pub stopped : Analysed settings run.told (λ analysis. IsStopped analysis number run.table full.triple run.before run.after)
+  pub full : IsTableFull settings table
+  pub stopped : Analysed settings run.told (λ analysis. IsStopped analysis number table full.triple run.before run.after)
   pub spelled : line ≡ node_limit_line number
 
--- out grew by the head and the whole sections of the targets before some target
-pub record IsBetweenSections (analysis : Analysis) (before after : Option (List ℕ)) : Type 0 where
+-- out grew by the text over the targets before some target
+pub record IsBetween (IsText : Texts) (analysis : Analysis) (before after : Option (List ℕ)) : Type 0 where
   pub count : ℕ
   pub before_one : count < length (all_targets analysis)
-  pub reported : ReportedFirst analysis count before after
+  pub reported : WroteFirst IsText analysis count before after
 
-pub record OutOfMemoryRow (settings : Settings) (run : Run) (line : List ℕ) : Type 0 where
-  pub reported : (run.after ≡ run.before) ⊎ Analysed settings run.told (λ analysis. IsBetweenSections analysis run.before run.after)
+-- out grew by the head and the whole sections of the targets before some target
+abbrev pub IsBetweenSections : Analysis → Option (List ℕ) → Option (List ℕ) → Type 0
+IsBetweenSections = IsBetween IsReport
+
+pub record OutOfMemoryRow (IsText : Texts) (settings : Settings) (run : Run) (line : List ℕ) : Type 0 where
+  pub reported : (run.after ≡ run.before) ⊎ Analysed settings run.told (λ analysis. IsBetween IsText analysis run.before run.after)
   pub spelled : line ≡ out_of_memory_line
 
 -- Where the words give these settings: each status with its row; the words are then not refused.
-abbrev pub RunOutcome : Settings → Run → List ℕ → Status → Type 0
-RunOutcome settings run line Done = DoneRow settings run line
-RunOutcome settings run line BadModel = BadModelRow settings run line
-RunOutcome settings run line BadWords = ⊥
-RunOutcome settings run line ReadFault = ReadFaultRow settings run line
-RunOutcome settings run line WriteFault = WriteFaultRow settings run line
-RunOutcome settings run line (NodeLimit number) = NodeLimitRow settings run number line
-RunOutcome settings run line OutOfMemory = OutOfMemoryRow settings run line
+abbrev pub RunOutcome : Settings → Run → Table → List ℕ → Status → Type 0
+RunOutcome settings run table line Done = DoneRow settings run table line
+RunOutcome settings run table line BadModel = BadModelRow settings run line
+RunOutcome settings run table line BadWords = ⊥
+RunOutcome settings run table line ReadFault = ReadFaultRow settings run line
+RunOutcome settings run table line WriteFault = WriteFaultRow IsReport settings run line
+RunOutcome settings run table line (NodeLimit number) = NodeLimitRow settings run table number line
+RunOutcome settings run table line OutOfMemory = OutOfMemoryRow IsReport settings run line
+
+-- The same of a program that writes another text, and makes node tables of its own, without a limit.
+pub record WrittenRow (IsText : Texts) (settings : Settings) (run : Run) (line : List ℕ) : Type 0 where
+  pub silent : line ≡ []
+  pub finished : Analysed settings run.told (λ analysis. Wrote IsText analysis run.before run.after)
+
+abbrev pub TextOutcome : Texts → Settings → Run → List ℕ → Status → Type 0
+TextOutcome IsText settings run line Done = WrittenRow IsText settings run line
+TextOutcome IsText settings run line BadModel = BadModelRow settings run line
+TextOutcome IsText settings run line BadWords = ⊥
+TextOutcome IsText settings run line ReadFault = ReadFaultRow settings run line
+TextOutcome IsText settings run line WriteFault = WriteFaultRow IsText settings run line
+TextOutcome IsText settings run line (NodeLimit number) = ⊥
+TextOutcome IsText settings run line OutOfMemory = OutOfMemoryRow IsText settings run line
 
 -- Where the words give no settings: the statuses, each with its text on err. `refused` is that on refused words.
 pub data IsRefusal (refused : List ℕ) : Status → List ℕ → Type 0 where

@@ -25,14 +25,13 @@ pub record Run : Type 0 where
   -- the counts of faults of the folder and of out, before and after
   pub folder_faults : ℕ × ℕ
   pub out_faults : ℕ × ℕ
-  -- the bytes of out, before and after, and the node table after
+  -- the bytes of out, before and after
   pub before : Option (List ℕ)
   pub after : Option (List ℕ)
-  pub table : Table
 
 -- a run by these settings over a folder that tells these files
-abbrev pub run_of : Settings → Option Told → Option (List ℕ) → ℕ → ℕ × ℕ → ℕ × ℕ → Option (List ℕ) → Option (List ℕ) → Table → Run
-run_of settings told rest opened folder_faults out_faults before after table = record {
+abbrev pub run_of : Settings → Option Told → Option (List ℕ) → ℕ → ℕ × ℕ → ℕ × ℕ → Option (List ℕ) → Option (List ℕ) → Run
+run_of settings told rest opened folder_faults out_faults before after = record {
   told = told_of settings.input told;
   rest = rest;
   opened = opened;
@@ -40,7 +39,6 @@ run_of settings told rest opened folder_faults out_faults before after table = r
   out_faults = out_faults;
   before = before;
   after = after;
-  table = table;
 }
 
 abbrev pub ReadRose : Run → Type 0
@@ -59,31 +57,46 @@ NoFaultRose run = (ReadRose run → ⊥) × (WriteRose run → ⊥)
 abbrev pub all_targets : Analysis → List Target
 all_targets analysis = targets_of analysis.expanded.model
 
--- out grew by the report, whose intervals hold the exact quantities
-pub record Reported (analysis : Analysis) (before after : Option (List ℕ)) : Type 0 where
+-- What a program writes of an analysis: the texts that it may have over some of the first targets, of which the text
+-- over all of them is the whole one.
+abbrev pub Texts : Type 1
+Texts = Analysis → List Target → List ℕ → Type 0
+
+-- out grew by the whole text, whose intervals hold the exact quantities
+pub record Wrote (IsText : Texts) (analysis : Analysis) (before after : Option (List ℕ)) : Type 0 where
   pub text : List ℕ
-  pub is_report : IsReport analysis (all_targets analysis) text
+  pub is_report : IsText analysis (all_targets analysis) text
   pub bracketed : IsBracketed analysis
   pub appended : Appends before after text
 
--- out grew by a prefix of the head and the sections of some first targets
-pub record ReportedPart (analysis : Analysis) (before after : Option (List ℕ)) : Type 0 where
+-- out grew by a prefix of the text over some first targets
+pub record WrotePart (IsText : Texts) (analysis : Analysis) (before after : Option (List ℕ)) : Type 0 where
   pub shown : List Target
   pub more : List Target
   pub are_targets : all_targets analysis ≡ shown ++ more
   pub text : List ℕ
-  pub is_report : IsReport analysis shown text
+  pub is_report : IsText analysis shown text
   pub appended : AppendsPrefix before after text
 
--- out grew by the head and the whole sections of so many first targets
-pub record ReportedFirst (analysis : Analysis) (count : ℕ) (before after : Option (List ℕ)) : Type 0 where
+-- out grew by the text over so many first targets
+pub record WroteFirst (IsText : Texts) (analysis : Analysis) (count : ℕ) (before after : Option (List ℕ)) : Type 0 where
   pub shown : List Target
   pub more : List Target
   pub are_targets : all_targets analysis ≡ shown ++ more
   pub number : length shown ≡ count
   pub text : List ℕ
-  pub is_report : IsReport analysis shown text
+  pub is_report : IsText analysis shown text
   pub appended : Appends before after text
+
+-- the same of the report
+abbrev pub Reported : Analysis → Option (List ℕ) → Option (List ℕ) → Type 0
+Reported = Wrote IsReport
+
+abbrev pub ReportedPart : Analysis → Option (List ℕ) → Option (List ℕ) → Type 0
+ReportedPart = WrotePart IsReport
+
+abbrev pub ReportedFirst : Analysis → ℕ → Option (List ℕ) → Option (List ℕ) → Type 0
+ReportedFirst = WroteFirst IsReport
 
 -- ---- the run's own table
 

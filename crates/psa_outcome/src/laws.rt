@@ -5,6 +5,7 @@ ghost use Rattle.psa_text.specs.declared.tree.Element.{Element};
 ghost use Rattle.psa_nodes.specs.declared.node.Node.{Node};
 ghost use Rattle.psa_nodes.specs.Nodes.{AllFit};
 ghost use Rattle.psa_nodes.specs.Readings.{node_at, reading};
+ghost use Rattle.psa_nodes.specs.Table.{Table};
 ghost use Rattle.psa_model.specs.declared.fault.ModelFault.{ModelFault};
 ghost use Rattle.psa_model.specs.declared.settings.Settings.{Settings};
 ghost use Rattle.psa_model.specs.declared.targets.Target.{Target};
@@ -43,8 +44,8 @@ pub fn fault_lines_are_determined()
     ensures line { (settings : Settings) (run : Run) (files : Told) (line other : List ℕ)
         → run.told ≡ Some files → BadModelRow settings run line → BadModelRow settings run other
         → line ≡ other }
-    ensures apart { (settings : Settings) (run : Run) (files : Told) (line other : List ℕ)
-        → run.told ≡ Some files → DoneRow settings run line → BadModelRow settings run other → ⊥ }
+    ensures apart { (settings : Settings) (run : Run) (table : Table) (files : Told) (line other : List ℕ)
+        → run.told ≡ Some files → DoneRow settings run table line → BadModelRow settings run other → ⊥ }
 {}
 
 /// An analysis keeps its settings, has the events that they ask for, and intervals exactly where they

@@ -10,6 +10,7 @@ use Rattle.psa_nodes.specs.declared.node.Kind.TheVariants.{Zbdd}
 use Rattle.psa_nodes.specs.declared.node.Node.{Node}
 use Rattle.psa_nodes.specs.Readings.{next_id, node_at, has, joined, stands, same_kind}
 use Rattle.psa_nodes.specs.Nodes.{AllFit}
+use Rattle.psa_nodes.specs.Sizes.{HasMember}
 use Rattle.psa_nodes.proofs.CallerLemmas.{same_kind-exact, stands-below, node_at-below, has-below, joined-own, joined-other}
 use Rattle.psa_products.specs.Members.{led, sized}
 use Rattle.psa_products.specs.Walks.{ways}
@@ -248,3 +249,13 @@ sized-order (n ∷ older) fit v id h k =
           rw p.0 (sides-order older fit.1 n hi lo (sized-order older fit.1 (n.var + 1) n.hi.0 hi) (sized-order older fit.1 (n.var + 1) n.lo.0 lo) k)
       | inr p ↦ rw p.0 (sized-order older fit.1 v id (rw p.0 at h) k)
     ]
+
+-- where no member has k literals, none is listed
+pub sized-empty : (ns : List Node) → AllFit ns → (id : ℕ) → stands Zbdd 0 ns id ≡ true → (k : ℕ) → (HasMember (has ns id) k → ⊥) → sized ns id k ≡ []
+sized-empty ns fit id h k none = by (sized ns id k) refl
+  where
+    by : (l : List (List ℕ)) → sized ns id k ≡ l → sized ns id k ≡ []
+    by [] e = e
+    by (s ∷ l) e =
+        let r = sized-sound ns fit 0 id h k s (subst (λ (x : List (List ℕ)). Has x s) (sym e) (inl refl)) in
+        absurd (none (record { member = s; is_member = r.is_member; of_size = r.of_size }))

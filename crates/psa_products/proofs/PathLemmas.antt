@@ -4,7 +4,7 @@ use Rattle.psa_nodes.specs.declared.node.Kind.TheVariants.{Zbdd}
 use Rattle.psa_nodes.specs.declared.node.Node.{Node}
 use Rattle.psa_nodes.specs.Readings.{stands}
 use Rattle.psa_products.specs.Members.{sized, passes, inside, coming}
-use Rattle.psa_products.specs.Walks.{AreTaken, ways, side_ways}
+use Rattle.psa_products.specs.Walks.{AreTaken}
 use Rattle.psa_products.proofs.MemberLemmas.{IsBySides, sized-zero, sized-one}
 
 module _ (ns : List Node) where
@@ -79,8 +79,3 @@ module _ (ns : List Node) where
   pub taken-pop : (taken : List Node) (m : Node) → AreTaken ns (taken ++ m ∷ []) → AreTaken ns taken × (stands Zbdd 0 ns m.lo.0 ≡ true)
   taken-pop [] m h = (tt, h.0)
   taken-pop (n ∷ taken) m h = let r = taken-pop taken m h.1 in ((h.0, r.0), r.1)
-
-  -- the ways from the low sides of one more node
-  pub ways-push : (taken : List Node) (m : Node) → side_ways ns (taken ++ m ∷ []) ≡ side_ways ns taken + ways ns m.lo.0
-  ways-push [] m = omega arith
-  ways-push (n ∷ taken) m = omega (arith, ways-push taken m)

@@ -1,29 +1,54 @@
 -- What each step of a walk keeps.
-use Rattle.std.proofs.Common.{◌≡◌, ℕ, suc, ◌+◌, ◌-◌, ◌<◌, true, false, List, [], ◌∷◌, ◌++◌, map, length, length-append, Some, refl, sym, ap, ap₂, subst, ◌∙◌, inl, inr, arith, true≢false}
-use Rattle.std.proofs.lemmas.Bool.Decides.{eqb_tells}
+use Rattle.std.proofs.Common.{◌≡◌, ℕ, zero, suc, ◌+◌, ◌-◌, ◌<◌, ◌≤◌, Bool, true, false, List, [], ◌∷◌, ◌++◌, map, length, length-append, Some, refl, sym, ap, subst, ◌∙◌, inl, inr, arith, true≢false}
 use Rattle.arrayvec.specs.ArrayVec.{ArrayVec}
 use Rattle.psa_logic.proofs.LiteralLemmas.{literal-read}
-use Rattle.psa_model.specs.Literals.{literals_of}
 use Rattle.psa_nodes.specs.declared.node.Kind.TheVariants.{Zbdd}
 use Rattle.psa_nodes.specs.declared.node.Node.{Node}
-use Rattle.psa_nodes.specs.Readings.{node_at, stands}
+use Rattle.psa_nodes.specs.declared.node.NodeId.{NodeId}
+use Rattle.psa_nodes.specs.Readings.{node_at, has, joined, is_empty, stands, Reading}
 use Rattle.psa_nodes.specs.Nodes.{AllFit}
-use Rattle.psa_nodes.proofs.CallerLemmas.{at, stands-at, stands-weaker, stands-terminal}
+use Rattle.psa_nodes.specs.Sizes.{HasMember}
+use Rattle.psa_nodes.proofs.CallerLemmas.{at, At, stands-at, stands-weaker, stands-terminal, joined-member, has-one, has-zero}
+use Rattle.psa_model.specs.Literals.{literals_of}
 use Rattle.psa_products.specs.declared.walk.Walk.{Walk}
 use Rattle.psa_products.specs.Products.{literal_of}
-use Rattle.psa_products.specs.Members.{sized, passes, inside, coming}
-use Rattle.psa_products.specs.Walks.{to_come, pass_size, AreTaken, IsWalk, IsAtMember, IsPassed, ways, side_ways, ways_left, passes_left}
-use Rattle.psa_products.proofs.MemberLemmas.{Children, children, sized-zero, sized-one-more, ways-terminal}
-use Rattle.psa_products.proofs.PassLemmas.{passes-none}
-use Rattle.psa_products.proofs.PathLemmas.{inside-take, inside-pop, inside-same, coming-take, coming-same, coming-pop, coming-found, taken-push, taken-pop, ways-push}
+use Rattle.psa_products.specs.Members.{led, sized, coming}
+use Rattle.psa_products.specs.Walks.{to_come, AreTaken, IsWalk, steps_up}
+use Rattle.psa_products.proofs.MemberLemmas.{IsBySides, Children, children, sized-empty}
+use Rattle.psa_products.proofs.PathLemmas.{coming-take, coming-same, coming-pop, coming-found, taken-push, taken-pop}
+
+-- where the walk has a member to come at the end of its path
+abbrev pub HasNext : Walk → Type 0
+HasNext w = HasMember (has w.table.now.nodes w.at.0) w.left
+
+-- a walk has few literals to come
+pub few-left : (w : Walk) → IsWalk w → w.left ≤ 32
+few-left w walk = let size = walk.size in let limit = walk.limit in omega (arith, size, limit)
+
+-- a family with a member is no terminal but 1
+pub inner : (ns : List Node) (id k : ℕ) → HasMember (has ns id) k → (id ≡ 1 → ⊥) → 2 ≤ id
+inner ns zero k m other = absurd (true≢false (sym m.is_member ∙ has-zero ns m.member))
+inner ns (suc id) k m other = by id refl
+  where
+    by : (i : ℕ) → id ≡ i → 2 ≤ suc id
+    by zero e = absurd (other (ap suc e))
+    by (suc i) e = omega (arith, e)
+
+-- the member of the terminal 1 has no literal
+pub ended : (ns : List Node) (k : ℕ) → HasMember (has ns 1) k → k ≡ 0
+ended ns k m = by m.member m.is_member m.of_size
+  where
+    by : (set : List ℕ) → has ns 1 set ≡ true → length set ≡ k → k ≡ 0
+    by [] h e = sym e
+    by (y ∷ ys) h e = absurd (true≢false (sym h ∙ has-one ns (y ∷ ys)))
 
 -- the children of a node of a family
-pub record Inner (ns : List Node) (m : Node) : Type 0 where
+pub record Inner (ns : List Node) (id : ℕ) (m : Node) : Type 0 where
   pub hi : stands Zbdd 0 ns m.hi.0 ≡ true
   pub lo : stands Zbdd 0 ns m.lo.0 ≡ true
+  pub family : has ns id ≡ joined m.var (has ns m.hi.0) (has ns m.lo.0)
 
--- they stand
-pub inner-node : (ns : List Node) → AllFit ns → (id : ℕ) (m : Node) → stands Zbdd 0 ns id ≡ true → node_at ns id ≡ Some m → Inner ns m
+pub inner-node : (ns : List Node) → AllFit ns → (id : ℕ) (m : Node) → stands Zbdd 0 ns id ≡ true → node_at ns id ≡ Some m → Inner ns id m
 inner-node ns fit id m h there =
     let a = at ns fit id m there in
     let kind = (stands-at Zbdd 0 ns id m h there).0 in
@@ -32,40 +57,35 @@ inner-node ns fit id m h there =
     record {
       hi = stands-weaker Zbdd (m.var + 1) 0 ns m.hi.0 (omega arith) hi;
       lo = stands-weaker Zbdd (m.var + 1) 0 ns m.lo.0 (omega arith) lo;
+      family = ap (λ (r : Reading). r.as_family) a.reads;
     }
 
--- what a step within a pass keeps
-pub record IsStep (w now : Walk) : Type 0 where
+-- what a step down keeps
+pub record IsDown (w now : Walk) : Type 0 where
   pub walk : IsWalk now
+  pub member : HasNext now
   pub same : to_come now ≡ to_come w
-  pub falls : ways_left now < ways_left w
-  pub pass : passes_left now ≡ passes_left w
+  pub lower : now.at.0 < w.at.0
 
--- a step down
+led-empty : (x : ℕ) (f : ℕ → List (List ℕ)) (k : ℕ) → (0 < k → f (k - 1) ≡ []) → led x f k ≡ []
+led-empty x f zero none = refl
+led-empty x f (suc k) none =
+    let down : suc k - 1 ≡ k = omega arith in
+    ap (λ (sets : List (List ℕ)). map (λ set. x ∷ set) sets) (ap f (sym down) ∙ none (omega arith))
+
 module _ (w : Walk) (walk : IsWalk w) (fit : AllFit w.table.now.nodes) (m : Node) (there : node_at w.table.now.nodes w.at.0 ≡ Some m) where
-  both : Children w.table.now.nodes w.at.0 m
-  both = children w.table.now.nodes fit w.at.0 m there
+  sides : Children w.table.now.nodes w.at.0 m
+  sides = children w.table.now.nodes fit w.at.0 m there
 
-  parts : Inner w.table.now.nodes m
+  parts : Inner w.table.now.nodes w.at.0 m
   parts = inner-node w.table.now.nodes fit w.at.0 m walk.at there
 
-  -- to the high side, where literals are left
-  pub down-hi : (taken : ArrayVec Node) → taken.items ≡ w.taken.items ++ m ∷ [] → 0 < w.left → IsStep w (record w { taken = taken; left = w.left - 1; at = m.hi })
-  down-hi taken e some =
+  pub down-hi : (taken : ArrayVec Node) → taken.items ≡ w.taken.items ++ m ∷ [] → 0 < w.left → HasMember (has w.table.now.nodes m.hi.0) (w.left - 1)
+      → IsDown w (record w { taken = taken; left = w.left - 1; at = m.hi })
+  down-hi taken e some member =
       let ns = w.table.now.nodes in
       let longer : length taken.items ≡ length w.taken.items + 1 = ap length e ∙ length-append w.taken.items (m ∷ []) in
-      let sides : side_ways ns taken.items ≡ side_ways ns w.taken.items + ways ns m.lo.0 = ap (side_ways ns) e ∙ ways-push ns w.taken.items m in
-      let both_ways = both.both_ways in
       let size = walk.size in
-      let ahead : w.longer ≡ false → (more : ℕ)
-      → sized ns w.root.0 (length taken.items + (w.left - 1) + suc more) ≡ inside ns taken.items m.hi.0 (w.left - 1 + suc more) =
-      λ h more.
-      let sizes : length taken.items + (w.left - 1) + suc more ≡ length w.taken.items + w.left + suc more = omega (arith, longer, some) in
-      let up : w.left + suc more ≡ suc (w.left - 1 + suc more) = omega (arith, some) in
-      ap (sized ns w.root.0) sizes ∙ walk.ahead h more
-      ∙ ap (inside ns w.taken.items w.at.0) up
-      ∙ sym (inside-take ns w.taken.items m w.at.0 (w.left - 1 + suc more) both.sides)
-      ∙ ap (λ (items : List Node). inside ns items m.hi.0 (w.left - 1 + suc more)) (sym e) in
       record {
         walk = record {
           root = walk.root;
@@ -73,176 +93,73 @@ module _ (w : Walk) (walk : IsWalk w) (fit : AllFit w.table.now.nodes) (m : Node
           taken = subst (λ (items : List Node). AreTaken ns items) (sym e) (taken-push ns w.taken.items m walk.taken parts.lo);
           size = omega (arith, longer, size, some);
           limit = walk.limit;
-          ahead = ahead;
         };
+        member = member;
         same =
             ap (λ (items : List Node). coming ns w.root.0 w.limit items m.hi.0 (w.left - 1)) e
-            ∙ coming-take ns w.root.0 w.limit w.taken.items m w.at.0 w.left both.sides some;
-        falls = omega (arith, sides, both_ways);
-        pass = omega (arith, longer, some);
+            ∙ coming-take ns w.root.0 w.limit w.taken.items m w.at.0 w.left sides.sides some;
+        lower = sides.hi;
       }
 
-  -- to the low side, where none is left: the high side has a longer member
-  pub down-lo : w.left ≡ 0 → IsStep w (record w { at = m.lo; longer = true })
-  down-lo none =
+  pub down-lo : HasNext w → (0 < w.left → HasMember (has w.table.now.nodes m.hi.0) (w.left - 1) → ⊥) → IsDown w (record w { at = m.lo })
+  down-lo next none =
       let ns = w.table.now.nodes in
-      let both_ways = both.both_ways in
+      let next' : HasMember (joined m.var (has ns m.hi.0) (has ns m.lo.0)) w.left = subst (λ (f : List ℕ → Bool). HasMember f w.left) parts.family next in
+      let empty : led m.var (sized ns m.hi.0) w.left ≡ [] =
+      led-empty m.var (sized ns m.hi.0) w.left (λ some. sized-empty ns fit m.hi.0 parts.hi (w.left - 1) (none some)) in
       record {
-        walk = record {
-          root = walk.root;
-          at = parts.lo;
-          taken = walk.taken;
-          size = walk.size;
-          limit = walk.limit;
-          ahead = λ h. absurd (true≢false h);
-        };
+        walk = record { root = walk.root; at = parts.lo; taken = walk.taken; size = walk.size; limit = walk.limit };
+        member = elim (joined-member m.var (has ns m.hi.0) (has ns m.lo.0) w.left next') [
+          | inl p ↦
+              let j : p.0 ≡ w.left - 1 = omega (arith, p.1) in
+              absurd (none (omega (arith, p.1)) (subst (HasMember (has ns m.hi.0)) j p.2))
+          | inr p ↦ p
+        ];
         same = sym (coming-same ns w.root.0 w.limit w.taken.items w.at.0 m.lo.0 w.left
-            (subst (λ k. sized ns w.at.0 k ≡ sized ns m.lo.0 k) (sym none) (both.sides 0)));
-        falls = omega (arith, both_ways);
-        pass = refl;
+            (sides.sides w.left ∙ ap (λ (sets : List (List ℕ)). sets ++ sized ns m.lo.0 w.left) empty));
+        lower = sides.lo;
       }
 
--- nothing is ahead at a terminal that ends no member of the pass
-pub none-ahead : (w : Walk) → w.at.0 < 2 → (IsAtMember w → ⊥) → (more : ℕ) → sized w.table.now.nodes w.at.0 (w.left + more) ≡ []
-none-ahead w terminal fruitless more =
-    let ns = w.table.now.nodes in
-    elim (eqb_tells w.at.0 0) [
-      | inl p ↦ ap (λ i. sized ns i (w.left + more)) p.1 ∙ sized-zero ns (w.left + more)
-      | inr p ↦
-          let one : w.at.0 ≡ 1 = omega (arith, terminal, p.1) in
-          elim (eqb_tells w.left 0) [
-            | inl q ↦ absurd (fruitless (record { at = one; left = q.1 }))
-            | inr q ↦
-                let up : w.left + more ≡ suc (w.left - 1 + more) = omega (arith, q.1) in
-                ap₂ (λ i k. sized ns i k) one up ∙ sized-one-more ns (w.left - 1 + more)
-          ]
-    ]
+-- what a step up keeps
+pub record IsUp (w now : Walk) : Type 0 where
+  pub walk : IsWalk now
+  pub same : to_come now ≡ to_come w
+  pub falls : steps_up now < steps_up w
 
--- a list with no first item is empty
-pub none-taken : (nodes : List Node) → (0 < length nodes → ⊥) → nodes ≡ []
-none-taken [] none = refl
-none-taken (n ∷ nodes) none = absurd (none (omega arith))
-
--- a step back
-pub back : (w : Walk) → IsWalk w → w.at.0 < 2 → (IsAtMember w → ⊥) → (taken : ArrayVec Node) (m : Node) → w.taken.items ≡ taken.items ++ m ∷ [] → IsStep w (record w { taken = taken; left = w.left + 1; at = m.lo })
-back w walk terminal fruitless taken m e =
-    let ns = w.table.now.nodes in
-    let none = none-ahead w terminal fruitless in
-    let shorter : length w.taken.items ≡ length taken.items + 1 = ap length e ∙ length-append taken.items (m ∷ []) in
-    let sides : side_ways ns w.taken.items ≡ side_ways ns taken.items + ways ns m.lo.0 = ap (side_ways ns) e ∙ ways-push ns taken.items m in
-    let one = ways-terminal ns w.at.0 terminal in
-    let size = walk.size in
-    let own : w.left + 0 ≡ w.left = omega arith in
-    let r = taken-pop ns taken.items m (subst (λ (items : List Node). AreTaken ns items) e walk.taken) in
-    let ahead : w.longer ≡ false → (more : ℕ)
-    → sized ns w.root.0 (length taken.items + (w.left + 1) + suc more) ≡ inside ns taken.items m.lo.0 (w.left + 1 + suc more) =
-    λ h more.
-    let sizes : length taken.items + (w.left + 1) + suc more ≡ length w.taken.items + w.left + suc more = omega (arith, shorter) in
-    let up : suc (w.left + suc more) ≡ w.left + 1 + suc more = omega arith in
-    ap (sized ns w.root.0) sizes ∙ walk.ahead h more
-    ∙ ap (λ (items : List Node). inside ns items w.at.0 (w.left + suc more)) e
-    ∙ inside-pop ns taken.items m w.at.0 (w.left + suc more) (none (suc more))
-    ∙ ap (inside ns taken.items m.lo.0) up in
-    record {
-      walk = record { root = walk.root; at = r.1; taken = r.0; size = omega (arith, shorter, size); limit = walk.limit; ahead = ahead };
-      same =
-          coming-pop ns w.root.0 w.limit taken.items m w.at.0 w.left (ap (sized ns w.at.0) (sym own) ∙ none 0)
-          ∙ sym (ap (λ (items : List Node). coming ns w.root.0 w.limit items w.at.0 w.left) e);
-      falls = omega (arith, sides, one);
-      pass = omega (arith, shorter);
-    }
-
--- the end of a pass
-module _ (w : Walk) (walk : IsWalk w) (passed : IsPassed w) where
-  -- only the later passes are to come
-  later : to_come w ≡ passes w.table.now.nodes w.root.0 (w.left + 1) (w.limit - w.left)
-  later =
+module _ (w : Walk) (walk : IsWalk w) (none : sized w.table.now.nodes w.at.0 w.left ≡ []) (taken : ArrayVec Node) where
+  pub up-pop : (m : Node) → w.taken.items ≡ taken.items ++ m ∷ [] → IsUp w (record w { taken = taken; left = w.left + 1; at = m.lo })
+  up-pop m e =
       let ns = w.table.now.nodes in
-      let own : w.left + 0 ≡ w.left = omega arith in
-      let none = ap length passed.taken in
-      let sizes : length w.taken.items + w.left ≡ w.left = omega (arith, none) in
-      ap (λ (items : List Node). inside ns items w.at.0 w.left ++ passes ns w.root.0 (pass_size w + 1) (w.limit - pass_size w)) passed.taken
-      ∙ ap₂ (λ (sets : List (List ℕ)) (k : ℕ). sets ++ passes ns w.root.0 (k + 1) (w.limit - k)) (ap (sized ns w.at.0) (sym own) ∙ passed.none 0) sizes
-
-  -- and none at the limit
-  pub end-limit : w.left ≡ w.limit → to_come w ≡ []
-  end-limit e =
-      let none : w.limit - w.left ≡ 0 = omega (arith, e) in
-      later ∙ ap (passes w.table.now.nodes w.root.0 (w.left + 1)) none
-
-  -- and none where the pass met no longer member
-  pub end-shorter : w.longer ≡ false → to_come w ≡ []
-  end-shorter h =
-      let ns = w.table.now.nodes in
-      later ∙ passes-none ns w.root.0 (w.limit - w.left) (w.left + 1) (λ more.
-      let length-taken = ap length passed.taken in
-      let sizes : w.left + 1 + more ≡ length w.taken.items + w.left + suc more = omega (arith, length-taken) in
-      ap (sized ns w.root.0) sizes ∙ walk.ahead h more
-      ∙ ap (λ (items : List Node). inside ns items w.at.0 (w.left + suc more)) passed.taken
-      ∙ passed.none (suc more))
-
-  -- the next pass is a walk
-  pub begin-walk : w.left < w.limit → IsWalk (record w { left = w.left + 1; at = w.root; longer = false })
-  begin-walk lt =
-      let ns = w.table.now.nodes in
-      let none = ap length passed.taken in
+      let shorter : length w.taken.items ≡ length taken.items + 1 = ap length e ∙ length-append taken.items (m ∷ []) in
+      let size = walk.size in
+      let r = taken-pop ns taken.items m (subst (λ (items : List Node). AreTaken ns items) e walk.taken) in
       record {
-        root = walk.root;
-        at = walk.root;
-        taken = walk.taken;
-        size = omega (arith, none, lt);
-        limit = walk.limit;
-        ahead = λ h more.
-            let sizes : length w.taken.items + (w.left + 1) + suc more ≡ w.left + 1 + suc more = omega (arith, none) in
-            ap (sized ns w.root.0) sizes
-            ∙ ap (λ (items : List Node). inside ns items w.root.0 (w.left + 1 + suc more)) (sym passed.taken);
+        walk = record { root = walk.root; at = r.1; taken = r.0; size = omega (arith, shorter, size); limit = walk.limit };
+        same =
+            coming-pop ns w.root.0 w.limit taken.items m w.at.0 w.left none
+            ∙ sym (ap (λ (items : List Node). coming ns w.root.0 w.limit items w.at.0 w.left) e);
+        falls = omega (arith, shorter, size);
       }
-
-  -- with the same members to come
-  pub begin-same : w.left < w.limit → to_come (record w { left = w.left + 1; at = w.root; longer = false }) ≡ to_come w
-  begin-same lt =
-      let ns = w.table.now.nodes in
-      let none = ap length passed.taken in
-      let sizes : length w.taken.items + (w.left + 1) ≡ w.left + 1 = omega (arith, none) in
-      let up : suc (w.limit - (w.left + 1)) ≡ w.limit - w.left = omega (arith, lt) in
-      ap (λ (items : List Node). inside ns items w.root.0 (w.left + 1) ++ passes ns w.root.0 (length w.taken.items + (w.left + 1) + 1) (w.limit - (length w.taken.items + (w.left + 1)))) passed.taken
-      ∙ ap (λ k. sized ns w.root.0 (w.left + 1) ++ passes ns w.root.0 (k + 1) (w.limit - k)) sizes
-      ∙ ap (passes ns w.root.0 (w.left + 1)) up
-      ∙ sym later
-
-  -- and one pass less
-  pub begin-falls : w.left < w.limit → passes_left (record w { left = w.left + 1; at = w.root; longer = false }) < passes_left w
-  begin-falls lt =
-      let none = ap length passed.taken in
-      omega (arith, none, lt)
 
 -- a member is given
-module _ (w : Walk) (walk : IsWalk w) (found : IsAtMember w) where
-  -- it is the first of those that were to come
-  pub given : to_come w ≡ map (λ (n : Node). n.var) w.taken.items ∷ to_come (record w { at = record { 0 = 0 } })
-  given =
+module _ (w : Walk) (walk : IsWalk w) (one : w.at.0 ≡ 1) (end : w.left ≡ 0) where
+  pub given : (taken : List Node) → taken ≡ w.taken.items → to_come w ≡ map (λ (n : Node). n.var) taken ∷ to_come (record w { at = record { 0 = 0 } })
+  given taken e =
       let ns = w.table.now.nodes in
-      ap (λ i. coming ns w.root.0 w.limit w.taken.items i w.left) found.at
-      ∙ ap (coming ns w.root.0 w.limit w.taken.items 1) found.left
+      ap (λ i. coming ns w.root.0 w.limit w.taken.items i w.left) one
+      ∙ ap (coming ns w.root.0 w.limit w.taken.items 1) end
       ∙ coming-found ns w.root.0 w.limit w.taken.items
-      ∙ ap (λ l. map (λ (n : Node). n.var) w.taken.items ∷ coming ns w.root.0 w.limit w.taken.items 0 l) (sym found.left)
+      ∙ ap (λ (items : List Node). map (λ (n : Node). n.var) items ∷ coming ns w.root.0 w.limit w.taken.items 0 0) (sym e)
+      ∙ ap (λ l. map (λ (n : Node). n.var) taken ∷ coming ns w.root.0 w.limit w.taken.items 0 l) (sym end)
 
-  -- and the rest is a walk
   pub given-walk : IsWalk (record w { at = record { 0 = 0 } })
-  given-walk =
-      let ns = w.table.now.nodes in
-      record {
-        root = walk.root;
-        at = stands-terminal Zbdd 0 ns 0 (omega arith);
-        taken = walk.taken;
-        size = walk.size;
-        limit = walk.limit;
-        ahead = λ h more.
-            let up : w.left + suc more ≡ suc (w.left + more) = omega arith in
-            walk.ahead h more
-            ∙ inside-same ns w.taken.items w.at.0 0 (w.left + suc more)
-            (ap₂ (λ i k. sized ns i k) found.at up ∙ sized-one-more ns (w.left + more) ∙ sym (sized-zero ns (w.left + suc more)));
-      }
+  given-walk = record {
+    root = walk.root;
+    at = stands-terminal Zbdd 0 w.table.now.nodes 0 (omega arith);
+    taken = walk.taken;
+    size = walk.size;
+    limit = walk.limit;
+  }
 
 -- the literal numbers of the product of nodes
 pub literals-nodes : (nodes : List Node) → literals_of (map (λ (n : Node). literal_of n.var) nodes) ≡ map (λ (n : Node). n.var) nodes

@@ -1,10 +1,11 @@
-ghost use Rattle.std.specs.Prelude.{◌≡◌, ◌↔◌, ◌<◌, ◌≤◌, ◌+◌, true, false, [], ◌∷◌, IsTrue};
-ghost use Rattle.psa_model.specs.Literals.{literals_of};
+ghost use Rattle.std.specs.Prelude.{◌≡◌, ◌↔◌, ◌<◌, ◌≤◌, ◌+◌, ◌-◌, true, false, [], ◌∷◌, IsTrue, IfSome, IfNone};
 ghost use Rattle.psa_nodes.specs.declared.node.Kind.TheVariants.{Zbdd};
-ghost use Rattle.psa_nodes.specs.Readings.{IsInner, IsTerminal, stands};
+ghost use Rattle.psa_nodes.specs.Readings.{node_at, has, stands};
+ghost use Rattle.psa_nodes.specs.Sizes.{HasMember};
 ghost use Rattle.psa_nodes.specs.Table.{IsTable};
-ghost use Rattle.psa_products.specs.Members.{passes};
-ghost use Rattle.psa_products.specs.Walks.{to_come, IsWalk, IsAtMember, IsPassed, ways_left, passes_left};
+ghost use Rattle.psa_model.specs.Literals.{literals_of};
+ghost use Rattle.psa_products.specs.Members.{sized, passes};
+ghost use Rattle.psa_products.specs.Walks.{to_come, steps_up, IsWalk};
 
 use crate::product::take_nodes;
 use arrayvec::ArrayVec;
@@ -12,22 +13,29 @@ use psa_model::{MAX_ORDER, Product};
 use psa_nodes::{Node, NodeId, NodeTable, Steps};
 use std::sync::ledger::Ledger;
 
-/// A walk through the members of a family: for each number of literals from 0 on a pass through the diagram,
-/// the side with the literal first, until a pass met no longer member.
+/// A walk through the members of a family: for each number of literals from 0 to `limit` a pass through the diagram,
+/// the side with the literal first. A pass enters only sides that hold a member of the right size.
 #[derive(Drop)]
 pub(crate) struct Walk<'a> {
     table: &'a NodeTable,
     root: NodeId,
-    /// No pass is for more literals.
     limit: u8,
-    /// The nodes whose literal was taken in this pass, from the root on.
+    /// The nodes whose literal was taken, from the root on.
     taken: ArrayVec<Node, MAX_ORDER>,
     /// How many literals are still to be taken in this pass.
     left: u8,
     /// The family whose members of `left` literals come next.
     at: NodeId,
-    /// Whether this pass met a member with more literals than it is for.
-    longer: bool,
+}
+
+/// Whether a family has a member of `size` literals.
+fn has_member<L: Ledger>(table: &NodeTable, family: NodeId, size: u8, steps: &mut Steps<L>) -> bool
+    requires family { stands Zbdd 0 table.now.nodes family.0 ≡ true }
+    requires size { size < 64 }
+    ensures member { IsTrue result ↔ HasMember (has table.now.nodes family.0) size }
+    ensures table { IsTable table.now }
+{
+    table.sizes(family, steps) >> size & 1 == 1
 }
 
 impl<'a> Walk<'a> {
@@ -47,119 +55,88 @@ impl<'a> Walk<'a> {
             taken: ArrayVec::new(),
             left: 0,
             at: root,
-            longer: false,
         }
     }
 
-    /// Whether the literals that were taken are a member, and the pass is for as many.
-    fn has_found(&self) -> bool
-        ensures { IsTrue result ↔ IsAtMember self.now }
+    /// Whether the low side has no member that is to come, so that the walk takes the literal of the node at `at`.
+    fn takes<L: Ledger>(&self, node: &Node, steps: &mut Steps<L>) -> bool
+        requires hi { stands Zbdd 0 self.now.table.now.nodes node.now.hi.0 ≡ true }
+        requires left { self.now.left < 64 }
+        ensures yes { IsTrue result → (0 < self.now.left) × HasMember (has self.now.table.now.nodes node.now.hi.0) (self.now.left - 1) }
+        ensures no { result ≡ false → 0 < self.now.left → HasMember (has self.now.table.now.nodes node.now.hi.0) (self.now.left - 1) → ⊥ }
     {
-        self.left == 0 && self.at == NodeId::UNIT
+        if self.left == 0 {
+            return false;
+        }
+        has_member(self.table, node.hi, self.left - 1, steps)
     }
 
-    /// Goes on to a child of the node at `at`: where literals are left to the side with the literal, else to
-    /// the side without it. The side with it has a member, longer than the pass is for where none is left.
+    /// Goes one node down, where the family at `at` has a member to come and is no terminal.
     fn step_down<L: Ledger>(&mut self, steps: &mut Steps<L>)
         requires walk { IsWalk self.old }
-        requires inner { IsInner self.old.at.0 }
+        requires member { HasMember (has self.old.table.now.nodes self.old.at.0) self.old.left }
+        requires inner { self.old.at.0 ≡ 1 → ⊥ }
         ensures walk { IsWalk self.new }
+        ensures member { HasMember (has self.new.table.now.nodes self.new.at.0) self.new.left }
         ensures same { to_come self.new ≡ to_come self.old }
-        ensures falls { ways_left self.new < ways_left self.old }
-        ensures pass { passes_left self.new ≡ passes_left self.old }
+        ensures lower { self.new.at.0 < self.old.at.0 }
     {
         let node = self.table.node(self.at, steps);
-        if self.left == 0 {
-            self.longer = true;
-            self.at = node.lo;
-        } else {
+        if self.takes(&node, steps) {
             self.taken.push(node);
             self.left -= 1;
             self.at = node.hi;
+        } else {
+            self.at = node.lo;
         }
     }
 
-    /// Goes back to the side without the literal of the node that was taken last; false where none is taken.
-    fn step_back(&mut self) -> bool
+    /// Goes down to the end of the first member to come.
+    fn descend<L: Ledger>(&mut self, steps: &mut Steps<L>)
         requires walk { IsWalk self.old }
-        requires terminal { IsTerminal self.old.at.0 }
-        requires fruitless { IsAtMember self.old → ⊥ }
+        requires member { HasMember (has self.old.table.now.nodes self.old.at.0) self.old.left }
         ensures walk { IsWalk self.new }
         ensures same { to_come self.new ≡ to_come self.old }
-        ensures falls { IsTrue result → ways_left self.new < ways_left self.old }
-        ensures pass { passes_left self.new ≡ passes_left self.old }
-        ensures end { result ≡ false → IsPassed self.new }
+        ensures end { (self.new.at.0 ≡ 1) × (self.new.left ≡ 0) }
     {
-        let Some(node) = self.taken.pop() else {
-            return false;
-        };
-        self.left += 1;
-        self.at = node.lo;
-        true
-    }
-
-    /// Goes one step on, past no member; false at the end of the pass.
-    fn step<L: Ledger>(&mut self, steps: &mut Steps<L>) -> bool
-        requires walk { IsWalk self.old }
-        requires fruitless { IsAtMember self.old → ⊥ }
-        ensures walk { IsWalk self.new }
-        ensures same { to_come self.new ≡ to_come self.old }
-        ensures falls { IsTrue result → ways_left self.new < ways_left self.old }
-        ensures pass { passes_left self.new ≡ passes_left self.old }
-        ensures end { result ≡ false → IsPassed self.new }
-    {
-        if self.at.is_terminal() {
-            return self.step_back();
+        while self.at.0 != NodeId::UNIT.0 {
+            self.step_down(steps);
         }
-        self.step_down(steps);
-        true
     }
 
-    /// Goes on to the next member of this pass; false where none is left.
-    fn find_in_pass<L: Ledger>(&mut self, steps: &mut Steps<L>) -> bool
+    /// Goes on where no member of the family at `at` is to come: to the low side of the node taken last, or to the
+    /// next pass; false after the last pass.
+    fn step_up(&mut self) -> bool
         requires walk { IsWalk self.old }
+        requires none { sized self.old.table.now.nodes self.old.at.0 self.old.left ≡ [] }
         ensures walk { IsWalk self.new }
         ensures same { to_come self.new ≡ to_come self.old }
-        ensures pass { passes_left self.new ≡ passes_left self.old }
-        ensures found { IsTrue result → IsAtMember self.new }
-        ensures end { result ≡ false → IsPassed self.new }
-    {
-        while !self.has_found() {
-            if !self.step(steps) {
-                return false;
-            }
-        }
-        true
-    }
-
-    /// Begins the pass for one literal more; false where no member has as many.
-    fn begin_next_pass(&mut self) -> bool
-        requires walk { IsWalk self.old }
-        requires end { IsPassed self.old }
-        ensures walk { IsWalk self.new }
-        ensures same { to_come self.new ≡ to_come self.old }
-        ensures falls { IsTrue result → passes_left self.new < passes_left self.old }
+        ensures falls { IsTrue result → steps_up self.new < steps_up self.old }
         ensures end { result ≡ false → to_come self.new ≡ [] }
     {
-        if !self.longer || self.left == self.limit {
+        if let Some(node) = self.taken.pop() {
+            self.left += 1;
+            self.at = node.lo;
+            return true;
+        }
+        if self.left == self.limit {
             return false;
         }
         self.left += 1;
         self.at = self.root;
-        self.longer = false;
         true
     }
 
-    /// Goes on to the next member; false where none is left.
-    fn find<L: Ledger>(&mut self, steps: &mut Steps<L>) -> bool
+    /// Goes up to a family with a member to come; false where none is.
+    fn rise<L: Ledger>(&mut self, steps: &mut Steps<L>) -> bool
         requires walk { IsWalk self.old }
         ensures walk { IsWalk self.new }
         ensures same { to_come self.new ≡ to_come self.old }
-        ensures found { IsTrue result → IsAtMember self.new }
+        ensures member { IsTrue result → HasMember (has self.new.table.now.nodes self.new.at.0) self.new.left }
         ensures end { result ≡ false → to_come self.new ≡ [] }
     {
-        while !self.find_in_pass(steps) {
-            if !self.begin_next_pass() {
+        while !has_member(self.table, self.at, self.left, steps) {
+            if !self.step_up() {
                 return false;
             }
         }
@@ -174,9 +151,10 @@ impl<'a> Walk<'a> {
             to_come self.old ≡ literals_of product.new.items ∷ to_come self.new }
         ensures none { result ≡ false → (to_come self.old ≡ []) × (to_come self.new ≡ []) }
     {
-        if !self.find(steps) {
+        if !self.rise(steps) {
             return false;
         }
+        self.descend(steps);
         self.at = NodeId::EMPTY;
         take_nodes(product, &self.taken);
         true

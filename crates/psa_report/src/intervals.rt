@@ -7,7 +7,7 @@ use psa_number::{Interval, print_units};
 use psa_ports::Sink;
 
 /// Writes the ends of an interval in decimals, with a space between them.
-pub(crate) fn put_interval<S: Sink>(out: &mut S, interval: Interval) -> Result<(), WriteFault>
+pub fn put_interval<S: Sink>(out: &mut S, interval: Interval) -> Result<(), WriteFault>
     ensures { Writes (S.written out.old) (S.written out.new) (S.faults out.old) (S.faults out.new)
         (ends_text interval) result }
 {

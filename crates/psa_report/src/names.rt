@@ -42,7 +42,7 @@ fn member(model: &Model, group: GroupId, place: u8) -> &str
 }
 
 /// Writes the text of the event with a rank.
-pub(crate) fn put_ranked<S: Sink>(
+pub fn put_ranked<S: Sink>(
     out: &mut S,
     expanded: &Expanded,
     ranks: &[EventNumber],

@@ -7,4 +7,4 @@ mod section;
 
 pub use products::products_of_target;
 pub use report::{ReportError, write_report};
-pub use section::write_section;
+pub use section::{counted_bound, least_end, product_bound, reaches, write_section};

@@ -33,7 +33,7 @@ struct Subject<'a> {
 }
 
 /// The bound of a product, where there are intervals of the events.
-fn product_bound(values: &Option<Values>, ranks: &Ranks, product: &Product) -> Option<Interval>
+pub fn product_bound(values: &Option<Values>, ranks: &Ranks, product: &Product) -> Option<Interval>
     requires { IfSome values.now (All IsInUnit) }
     ensures exact { result ≡ bound_by values.now ranks.now (literals_of product.now.items) }
     ensures in_unit { IfSome result IsInUnit }
@@ -45,7 +45,7 @@ fn product_bound(values: &Option<Values>, ranks: &Ranks, product: &Product) -> O
 }
 
 /// The least upper end that the cutoff keeps, in units.
-fn least_end(settings: &Settings) -> Option<i128>
+pub fn least_end(settings: &Settings) -> Option<i128>
     ensures { result ≡ option_map (λ decimal. (decimal_ends decimal).hi) settings.now.cut_off }
 {
     match settings.cut_off {
@@ -55,7 +55,7 @@ fn least_end(settings: &Settings) -> Option<i128>
 }
 
 /// Whether the bound of a product reaches the least upper end; it is computed only where there is one.
-fn reaches(least: Option<i128>, values: &Option<Values>, ranks: &Ranks, product: &Product) -> bool
+pub fn reaches(least: Option<i128>, values: &Option<Values>, ranks: &Ranks, product: &Product) -> bool
     requires { IfSome values.now (All IsInUnit) }
     ensures { result
         ≡ least_is_reached least (bound_by values.now ranks.now (literals_of product.now.items)) }
@@ -70,7 +70,7 @@ fn reaches(least: Option<i128>, values: &Option<Values>, ranks: &Ranks, product:
 }
 
 /// The bound that the totals take: 0, which changes no sum, where a product has none.
-fn counted_bound(bound: &Option<Interval>) -> Interval
+pub fn counted_bound(bound: &Option<Interval>) -> Interval
     requires { IfSome bound.now IsInUnit }
     ensures exact { result ≡ unwrap_or bound.now zero_ends }
     ensures in_unit { IsInUnit result }

@@ -8,3 +8,4 @@ pub mod TreeSize
 pub mod TextFaults
 pub mod TextOutcome
 pub mod scanner
+mod Kept

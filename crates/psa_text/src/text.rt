@@ -1,31 +1,42 @@
 ghost use Rattle.std.specs.Prelude.{◌≡◌, ◌<◌, [], All, IfOk, length};
 
 use crate::OutOfMemory;
+use arrayvec::ArrayString;
 use std::alloc::Global;
 use std::marker::Model;
+
+/// A text of at most this many bytes takes no memory of its own.
+const MAX_SHORT: usize = 24;
 
 /// A text that owns its bytes; contracts see it as the list of its bytes.
 #[derive(Debug, Drop)]
 pub struct Text {
-    text: String,
+    kept: Kept,
+}
+
+/// The bytes of a text: beside the text itself where they are few.
+#[derive(Debug, Drop)]
+enum Kept {
+    Short(ArrayString<MAX_SHORT>),
+    Long(String),
 }
 
 impl Model for Text {
     ghost use Rattle.std.specs.Prelude.{List, ℕ};
-    ghost use Rattle.std.specs.String.{string_bytes};
+    ghost use Rattle.psa_text.specs.Kept.{kept_bytes};
 
     ghost Value = { List ℕ };
 
-    ghost view = { λ t. string_bytes t.text };
+    ghost view = { λ t. kept_bytes t.kept };
 }
 
 impl Text {
     /// The empty text.
-    pub(crate) fn new(alloc: Global) -> Text
+    pub(crate) fn new(_alloc: Global) -> Text
         ensures { result ≡ [] }
     {
         Text {
-            text: String::new(alloc),
+            kept: Kept::Short(ArrayString::new()),
         }
     }
 
@@ -33,8 +44,11 @@ impl Text {
     pub fn from_str(alloc: Global, text: &str) -> Result<Text, OutOfMemory>
         ensures { IfOk result (λ made. made ≡ text.now) }
     {
-        let text = String::from_str(alloc, text)?;
-        Ok(Text { text })
+        let kept = match ArrayString::from(text) {
+            Ok(short) => Kept::Short(short),
+            Err(_) => Kept::Long(String::from_str(alloc, text)?),
+        };
+        Ok(Text { kept })
     }
 
     /// A text with these bytes, each of them ASCII.
@@ -46,27 +60,30 @@ impl Text {
         for byte in bytes {
             text.push(char::from(*byte))?;
         }
-        Ok(Text { text })
+        Text::from_str(alloc, text.as_str())
     }
 
     /// The text, borrowed.
     pub fn as_str(&self) -> &str
         ensures { result.now ≡ self.now }
     {
-        self.text.as_str()
+        match &self.kept {
+            Kept::Short(text) => text.as_str(),
+            Kept::Long(text) => text.as_str(),
+        }
     }
 
     /// Its bytes, borrowed.
     pub fn as_bytes(&self) -> &[u8]
         ensures { result.now ≡ self.now }
     {
-        self.text.as_bytes()
+        self.as_str().as_bytes()
     }
 
     /// The number of its bytes.
     pub fn len(&self) -> usize
         ensures { result ≡ length self.now }
     {
-        self.text.len()
+        self.as_str().len()
     }
 }

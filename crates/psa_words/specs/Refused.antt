@@ -1,5 +1,9 @@
 -- The two lines on refused words. This project's own.
 use Rattle.std.specs.Prelude.{ℕ, List, codes, ◌++◌}
 
+-- those of a program with this name
+abbrev pub refused_text : List ℕ → List ℕ
+refused_text program = codes "scram: bad words\n" ++ (codes "usage: " ++ (program ++ codes " [options] FILE...\n"))
+
 abbrev pub refused_words_text : List ℕ
-refused_words_text = codes "scram: bad words\n" ++ codes "usage: scram [options] FILE...\n"
+refused_words_text = refused_text (codes "scram")

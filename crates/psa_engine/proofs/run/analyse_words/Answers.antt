@@ -1,4 +1,4 @@
-use Rattle.std.proofs.Common.{Global, map, arith, subst, sym}
+use Rattle.std.proofs.Common.{Global, codes, map, arith, subst, sym}
 use Rattle.std.specs.Prelude.{List, ℕ}
 use Rattle.std.specs.String.{string_bytes}
 use Rattle.psa_outcome.specs.declared.status.Status.{Status}
@@ -25,7 +25,7 @@ returns-in-Ok-clause-opens g c =
 
 pub returns-in-Err-clause-refused_words : goal.returns-in-Err-clause-refused_words
 returns-in-Err-clause-refused_words g c none = (
-  refusal_text c.in-Err.error,
-  subst (λ (s : Status). IsRefusal refused_words_text s (refusal_text c.in-Err.error)) (sym c.refuse.ensures.status) (refusal-of c.in-Err.error),
+  refusal_text (codes "scram") c.in-Err.error,
+  subst (λ (s : Status). IsRefusal refused_words_text s (refusal_text (codes "scram") c.in-Err.error)) (sym c.refuse.ensures.status) (refusal-of (codes "scram") c.in-Err.error),
   c.refuse.ensures.line,
 )

@@ -15,7 +15,7 @@ pub returns-clause-right : goal.returns-clause-right
 returns-clause-right c =
     let e : c.copied.result ≡ lookup (key_eq c.args.key.now) c.args.self.now.entries =
     c.copied.ensures ∙ c.get.ensures.value ∙ ap (λ (t : Table). lookup (key_eq c.args.key.now) t.entries) c.self.view_is in
-    rw (← c.self.view_is) (right-lookup _ _ c.args.key.now c.copied.result c.self.invariant.right (e ∙ ap (λ (t : Table). lookup (key_eq c.args.key.now) t.entries) (sym c.self.view_is)))
+    rw (← c.self.view_is) (right-lookup _ _ c.args.key.now c.copied.result c.self.invariant.table.right (e ∙ ap (λ (t : Table). lookup (key_eq c.args.key.now) t.entries) (sym c.self.view_is)))
 
 pub returns-clause-absent : goal.returns-clause-absent
 returns-clause-absent c =
