@@ -13,7 +13,6 @@ use Rattle.psa_nodes.specs.Nodes.{AllFit}
 use Rattle.psa_nodes.specs.Sizes.{HasMember}
 use Rattle.psa_nodes.proofs.CallerLemmas.{same_kind-exact, stands-below, node_at-below, has-below, joined-own, joined-other}
 use Rattle.psa_products.specs.Members.{led, sized}
-use Rattle.psa_products.specs.Walks.{ways}
 
 -- one more node changes nothing for the ids before it
 sized-cons : (n : Node) (older : List Node) (id k : ℕ) → id < length older + 2 → sized (n ∷ older) id k ≡ sized older id k
@@ -36,27 +35,11 @@ sides-cons n older m hi lo k =
 sized-newest : (n : Node) (older : List Node) (k : ℕ) → sized (n ∷ older) (next_id older) k ≡ led n.var (sized older n.hi.0) k ++ sized older n.lo.0 k
 sized-newest n older k = rw (eq-eqb (length older + 2) (length older + 2) refl) refl
 
--- one more node changes no ways from the ids before it
-ways-cons : (n : Node) (older : List Node) (id : ℕ) → id < length older + 2 → ways (n ∷ older) id ≡ ways older id
-ways-cons n older id lt = rw (ne_eqb id (length older + 2) (λ e. omega arith)) refl
-
-ways-newest : (n : Node) (older : List Node) → ways (n ∷ older) (next_id older) ≡ 1 + ways older n.hi.0 + ways older n.lo.0
-ways-newest n older = rw (eq-eqb (length older + 2) (length older + 2) refl) refl
-
-ways-sides : (n : Node) (older : List Node) (m : Node) → m.hi.0 < length older + 2 → m.lo.0 < length older + 2 → 1 + ways older m.hi.0 + ways older m.lo.0 ≡ 1 + ways (n ∷ older) m.hi.0 + ways (n ∷ older) m.lo.0
-ways-sides n older m hi lo = omega (arith, ways-cons n older m.hi.0 hi, ways-cons n older m.lo.0 lo)
-
--- there is one way from a terminal
-pub ways-terminal : (ns : List Node) (id : ℕ) → id < 2 → ways ns id ≡ 1
-ways-terminal [] id lt = refl
-ways-terminal (n ∷ older) id lt = rw (ne_eqb id (length older + 2) (λ e. omega (arith, lt, e))) (ways-terminal older id lt)
-
--- the children of a node come before it, and share its members and its ways
+-- the children of a node come before it, and share its members
 pub record Children (ns : List Node) (id : ℕ) (m : Node) : Type 0 where
   pub hi : m.hi.0 < id
   pub lo : m.lo.0 < id
   pub sides : IsBySides ns id m
-  pub both_ways : ways ns id ≡ 1 + ways ns m.hi.0 + ways ns m.lo.0
 
 -- what is known of the children of the node at an id
 pub children : (ns : List Node) → AllFit ns → (id : ℕ) (m : Node) → node_at ns id ≡ Some m → Children ns id m
@@ -72,7 +55,6 @@ children (n ∷ older) fit id m e =
             hi = hi;
             lo = lo;
             sides = λ k. sized-newest n older k ∙ sides-cons n older n hi lo k;
-            both_ways = ways-newest n older ∙ ways-sides n older n hi lo;
           } in
           rw p.1 (subst (λ (x : Node). Children (n ∷ older) (next_id older) x) own newest)
       | inr p ↦
@@ -85,7 +67,6 @@ children (n ∷ older) fit id m e =
             hi = c.hi;
             lo = c.lo;
             sides = λ k. sized-cons n older id k below ∙ c.sides k ∙ sides-cons n older m hi lo k;
-            both_ways = ways-cons n older id below ∙ c.both_ways ∙ ways-sides n older m hi lo;
           }
     ]
 

@@ -1,5 +1,7 @@
 -- What each step of a walk keeps.
-use Rattle.std.proofs.Common.{◌≡◌, ℕ, zero, suc, ◌+◌, ◌-◌, ◌<◌, ◌≤◌, Bool, true, false, List, [], ◌∷◌, ◌++◌, map, length, length-append, Some, refl, sym, ap, subst, ◌∙◌, inl, inr, arith, true≢false}
+use Rattle.std.proofs.Common.{◌≡◌, ℕ, zero, suc, ◌+◌, ◌-◌, ◌<◌, ◌≤◌, Bool, true, false, List, [], ◌∷◌, ◌++◌, map, take, length, length-append, Some, refl, sym, ap, subst, ◌∙◌, inl, inr, arith, true≢false}
+use Rattle.std.proofs.lemmas.List.{length-map, map-append}
+use Rattle.std.proofs.Math.Seq.{take-append_seam}
 use Rattle.arrayvec.specs.ArrayVec.{ArrayVec}
 use Rattle.psa_logic.proofs.LiteralLemmas.{literal-read}
 use Rattle.psa_nodes.specs.declared.node.Kind.TheVariants.{Zbdd}
@@ -9,6 +11,7 @@ use Rattle.psa_nodes.specs.Readings.{node_at, has, joined, is_empty, stands, Rea
 use Rattle.psa_nodes.specs.Nodes.{AllFit}
 use Rattle.psa_nodes.specs.Sizes.{HasMember}
 use Rattle.psa_nodes.proofs.CallerLemmas.{at, At, stands-at, stands-weaker, stands-terminal, joined-member, has-one, has-zero}
+use Rattle.psa_model.specs.declared.product.Literal.{Literal}
 use Rattle.psa_model.specs.Literals.{literals_of}
 use Rattle.psa_products.specs.declared.walk.Walk.{Walk}
 use Rattle.psa_products.specs.Products.{literal_of}
@@ -20,6 +23,10 @@ use Rattle.psa_products.proofs.PathLemmas.{coming-take, coming-same, coming-pop,
 -- where the walk has a member to come at the end of its path
 abbrev pub HasNext : Walk → Type 0
 HasNext w = HasMember (has w.table.now.nodes w.at.0) w.left
+
+-- the literals of the nodes taken
+abbrev pub literals : List Node → List Literal
+literals nodes = map (λ (n : Node). literal_of n.var) nodes
 
 -- a walk has few literals to come
 pub few-left : (w : Walk) → IsWalk w → w.left ≤ 32
@@ -60,6 +67,33 @@ inner-node ns fit id m h there =
       family = ap (λ (r : Reading). r.as_family) a.reads;
     }
 
+-- all but the last
+take-last : {A : Type 0} (xs : List A) (x : A) → take (length (xs ++ x ∷ []) - 1) (xs ++ x ∷ []) ≡ xs
+take-last xs x =
+    let n : length (xs ++ x ∷ []) - 1 ≡ length xs = omega (arith, length-append xs (x ∷ [])) in
+    ap (λ n. take n (xs ++ x ∷ [])) n ∙ take-append_seam xs (x ∷ [])
+
+-- a literal more, and one less
+literals-push : (product : List Literal) (nodes more : List Node) (m : Node) (longer : List Literal) → product ≡ literals nodes → more ≡ nodes ++ m ∷ [] → longer ≡ product ++ literal_of m.var ∷ []
+    → longer ≡ literals more
+literals-push product nodes more m longer same e e' =
+    e' ∙ ap (λ (ls : List Literal). ls ++ literal_of m.var ∷ []) same
+    ∙ sym (map-append (λ (n : Node). literal_of n.var) nodes (m ∷ []))
+    ∙ ap literals (sym e)
+
+literals-pop : (product : List Literal) (nodes less : List Node) (m : Node) (shorter : List Literal) → product ≡ literals nodes → nodes ≡ less ++ m ∷ [] → shorter ≡ take (length product - 1) product
+    → shorter ≡ literals less
+literals-pop product nodes less m shorter same e e' =
+    let spelled : product ≡ literals less ++ literal_of m.var ∷ [] =
+    same ∙ ap literals e ∙ map-append (λ (n : Node). literal_of n.var) less (m ∷ []) in
+    e'
+    ∙ ap (λ (ls : List Literal). take (length ls - 1) ls) spelled
+    ∙ take-last (literals less) (literal_of m.var)
+
+-- the literals of the nodes are as many
+pub as-many : (product : List Literal) (nodes : List Node) → product ≡ literals nodes → length product ≡ length nodes
+as-many product nodes same = ap length same ∙ length-map nodes (λ (n : Node). literal_of n.var)
+
 -- what a step down keeps
 pub record IsDown (w now : Walk) : Type 0 where
   pub walk : IsWalk now
@@ -80,9 +114,10 @@ module _ (w : Walk) (walk : IsWalk w) (fit : AllFit w.table.now.nodes) (m : Node
   parts : Inner w.table.now.nodes w.at.0 m
   parts = inner-node w.table.now.nodes fit w.at.0 m walk.at there
 
-  pub down-hi : (taken : ArrayVec Node) → taken.items ≡ w.taken.items ++ m ∷ [] → 0 < w.left → HasMember (has w.table.now.nodes m.hi.0) (w.left - 1)
-      → IsDown w (record w { taken = taken; left = w.left - 1; at = m.hi })
-  down-hi taken e some member =
+  pub down-hi : (taken : ArrayVec Node) → taken.items ≡ w.taken.items ++ m ∷ [] → (product : ArrayVec Literal) → product.items ≡ w.product.items ++ literal_of m.var ∷ []
+      → 0 < w.left → HasMember (has w.table.now.nodes m.hi.0) (w.left - 1)
+      → IsDown w (record w { taken = taken; product = product; left = w.left - 1; at = m.hi })
+  down-hi taken e product e' some member =
       let ns = w.table.now.nodes in
       let longer : length taken.items ≡ length w.taken.items + 1 = ap length e ∙ length-append w.taken.items (m ∷ []) in
       let size = walk.size in
@@ -91,6 +126,7 @@ module _ (w : Walk) (walk : IsWalk w) (fit : AllFit w.table.now.nodes) (m : Node
           root = walk.root;
           at = parts.hi;
           taken = subst (λ (items : List Node). AreTaken ns items) (sym e) (taken-push ns w.taken.items m walk.taken parts.lo);
+          product = literals-push w.product.items w.taken.items taken.items m product.items walk.product e e';
           size = omega (arith, longer, size, some);
           limit = walk.limit;
         };
@@ -108,7 +144,7 @@ module _ (w : Walk) (walk : IsWalk w) (fit : AllFit w.table.now.nodes) (m : Node
       let empty : led m.var (sized ns m.hi.0) w.left ≡ [] =
       led-empty m.var (sized ns m.hi.0) w.left (λ some. sized-empty ns fit m.hi.0 parts.hi (w.left - 1) (none some)) in
       record {
-        walk = record { root = walk.root; at = parts.lo; taken = walk.taken; size = walk.size; limit = walk.limit };
+        walk = record { root = walk.root; at = parts.lo; taken = walk.taken; product = walk.product; size = walk.size; limit = walk.limit };
         member = elim (joined-member m.var (has ns m.hi.0) (has ns m.lo.0) w.left next') [
           | inl p ↦
               let j : p.0 ≡ w.left - 1 = omega (arith, p.1) in
@@ -127,14 +163,22 @@ pub record IsUp (w now : Walk) : Type 0 where
   pub falls : steps_up now < steps_up w
 
 module _ (w : Walk) (walk : IsWalk w) (none : sized w.table.now.nodes w.at.0 w.left ≡ []) (taken : ArrayVec Node) where
-  pub up-pop : (m : Node) → w.taken.items ≡ taken.items ++ m ∷ [] → IsUp w (record w { taken = taken; left = w.left + 1; at = m.lo })
-  up-pop m e =
+  pub up-pop : (m : Node) → w.taken.items ≡ taken.items ++ m ∷ [] → (product : ArrayVec Literal) → product.items ≡ take (length w.product.items - 1) w.product.items
+      → IsUp w (record w { taken = taken; product = product; left = w.left + 1; at = m.lo })
+  up-pop m e product e' =
       let ns = w.table.now.nodes in
       let shorter : length w.taken.items ≡ length taken.items + 1 = ap length e ∙ length-append taken.items (m ∷ []) in
       let size = walk.size in
       let r = taken-pop ns taken.items m (subst (λ (items : List Node). AreTaken ns items) e walk.taken) in
       record {
-        walk = record { root = walk.root; at = r.1; taken = r.0; size = omega (arith, shorter, size); limit = walk.limit };
+        walk = record {
+          root = walk.root;
+          at = r.1;
+          taken = r.0;
+          product = literals-pop w.product.items w.taken.items taken.items m product.items walk.product e e';
+          size = omega (arith, shorter, size);
+          limit = walk.limit;
+        };
         same =
             coming-pop ns w.root.0 w.limit taken.items m w.at.0 w.left none
             ∙ sym (ap (λ (items : List Node). coming ns w.root.0 w.limit items w.at.0 w.left) e);
@@ -157,6 +201,7 @@ module _ (w : Walk) (walk : IsWalk w) (one : w.at.0 ≡ 1) (end : w.left ≡ 0) 
     root = walk.root;
     at = stands-terminal Zbdd 0 w.table.now.nodes 0 (omega arith);
     taken = walk.taken;
+    product = walk.product;
     size = walk.size;
     limit = walk.limit;
   }

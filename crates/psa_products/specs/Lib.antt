@@ -3,3 +3,4 @@ pub mod Members
 pub mod Walks
 pub mod Rules
 pub mod Sums
+pub mod PartialBounds

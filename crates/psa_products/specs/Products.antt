@@ -10,3 +10,8 @@ literal_of number = record { rank = rank_of number; occurs = is_positive number 
 
 abbrev pub product_of : List ℕ → ArrayVec Literal
 product_of set = record { items = map (λ number. literal_of number) set }
+
+-- a product, and the sets that come after it
+pub record Listed : Type 0 where
+  pub product : List Literal
+  pub rest : List (List ℕ)

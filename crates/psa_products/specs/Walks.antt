@@ -1,9 +1,10 @@
 -- A walk through a family.
-use Rattle.std.specs.Prelude.{◌≡◌, ◌==◌, ◌≤◌, ◌+◌, ◌-◌, ℕ, true, List, [], ◌∷◌, length, if◌then◌else◌}
+use Rattle.std.specs.Prelude.{◌≡◌, ◌≤◌, ◌+◌, ◌-◌, ℕ, true, List, [], ◌∷◌, length, map}
 use Rattle.psa_nodes.specs.declared.node.Kind.TheVariants.{Zbdd}
 use Rattle.psa_nodes.specs.declared.node.Node.{Node}
-use Rattle.psa_nodes.specs.Readings.{next_id, stands}
+use Rattle.psa_nodes.specs.Readings.{stands}
 use Rattle.psa_products.specs.Members.{coming}
+use Rattle.psa_products.specs.Products.{literal_of}
 use Rattle.psa_products.specs.declared.walk.Walk.{Walk}
 
 -- the members that the walk has not given yet
@@ -19,15 +20,10 @@ pub record IsWalk (w : Walk) : Type 0 where
   pub root : stands Zbdd 0 w.table.now.nodes w.root.0 ≡ true
   pub at : stands Zbdd 0 w.table.now.nodes w.at.0 ≡ true
   pub taken : AreTaken w.table.now.nodes w.taken.items
+  pub product : w.product.items ≡ map (λ (n : Node). literal_of n.var) w.taken.items
   pub size : length w.taken.items + w.left ≤ w.limit
   pub limit : w.limit ≤ 32
 
 -- how often the walk can go up at most, if it does not go down
 abbrev pub steps_up : Walk → ℕ
 steps_up w = length w.taken.items + (w.limit - (length w.taken.items + w.left))
-
--- the number of ways through a diagram from an id on
-abbrev pub ways : List Node → ℕ → ℕ
-ways [] id = 1
-ways (n ∷ older) id = if id == next_id older then 1 + ways older n.hi.0 + ways older n.lo.0 else ways older id
-

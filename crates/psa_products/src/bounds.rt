@@ -29,7 +29,7 @@ fn event_interval(values: &Values, ranks: &Ranks, rank: u32) -> Interval
 }
 
 /// The interval of a literal: that of its event, or its complement.
-fn literal_interval(values: &Values, ranks: &Ranks, literal: Literal) -> Interval
+pub(crate) fn literal_interval(values: &Values, ranks: &Ranks, literal: Literal) -> Interval
     requires { IsInUnit (at_rank zero_ends values.now ranks.now literal.rank) }
     ensures exact { result
         ≡ literal_ends values.now ranks.now (literal_number literal.rank literal.occurs) }

@@ -3,13 +3,18 @@
 #![tactic(auto)]
 
 mod bounds;
+mod lister;
 mod listing;
+mod partial;
 mod product;
 mod rule;
 mod totals;
 mod walk;
 
 pub use bounds::bound;
+pub use lister::Lister;
 pub use listing::Listing;
+pub use partial::Bounds;
+pub use product::common_length;
 pub use rule::Rule;
 pub use totals::Totals;

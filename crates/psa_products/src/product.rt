@@ -1,13 +1,10 @@
-ghost use Rattle.std.specs.Prelude.{◌≡◌, map};
-ghost use Rattle.psa_nodes.specs.declared.node.Node.{Node};
+ghost use Rattle.std.specs.Prelude.{◌≡◌, ◌≤◌, take, length};
 ghost use Rattle.psa_products.specs.Products.{literal_of};
 
-use arrayvec::ArrayVec;
-use psa_model::{Literal, MAX_ORDER, Product};
-use psa_nodes::Node;
+use psa_model::{Literal, Product};
 
 /// The literal with a number.
-fn literal_with(number: u32) -> Literal
+pub(crate) fn literal_with(number: u32) -> Literal
     ensures { result ≡ literal_of number }
 {
     Literal {
@@ -16,12 +13,24 @@ fn literal_with(number: u32) -> Literal
     }
 }
 
-/// Makes a product that of the nodes' variables, which are literal numbers.
-pub(crate) fn take_nodes(product: &mut Product, nodes: &ArrayVec<Node, MAX_ORDER>)
-    ensures { product.new.items ≡ map (λ (n : Node). literal_of n.var) nodes.now.items }
+/// A copy of a product.
+pub(crate) fn copy_of(product: &Product) -> Product
+    ensures { result.items ≡ product.now.items }
 {
-    product.clear();
-    for node in nodes.as_slice() {
-        product.push(literal_with(node.var));
+    let mut copy = Product::new();
+    let _fits = copy.try_extend_from_slice(product.as_slice());
+    copy
+}
+
+/// How many first literals two lists have in common.
+pub fn common_length(left: &[Literal], right: &[Literal]) -> usize
+    ensures same { take result left.now ≡ take result right.now }
+    ensures left { result ≤ length left.now }
+    ensures right { result ≤ length right.now }
+{
+    let mut count = 0;
+    while count < left.len() && count < right.len() && left[count] == right[count] {
+        count += 1;
     }
+    count
 }

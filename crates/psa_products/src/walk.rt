@@ -7,7 +7,7 @@ ghost use Rattle.psa_model.specs.Literals.{literals_of};
 ghost use Rattle.psa_products.specs.Members.{sized, passes};
 ghost use Rattle.psa_products.specs.Walks.{to_come, steps_up, IsWalk};
 
-use crate::product::take_nodes;
+use crate::product::literal_with;
 use arrayvec::ArrayVec;
 use psa_model::{MAX_ORDER, Product};
 use psa_nodes::{Node, NodeId, NodeTable, Steps};
@@ -22,6 +22,8 @@ pub(crate) struct Walk<'a> {
     limit: u8,
     /// The nodes whose literal was taken, from the root on.
     taken: ArrayVec<Node, MAX_ORDER>,
+    /// Their literals.
+    product: Product,
     /// How many literals are still to be taken in this pass.
     left: u8,
     /// The family whose members of `left` literals come next.
@@ -53,6 +55,7 @@ impl<'a> Walk<'a> {
             root,
             limit,
             taken: ArrayVec::new(),
+            product: Product::new(),
             left: 0,
             at: root,
         }
@@ -84,6 +87,7 @@ impl<'a> Walk<'a> {
         let node = self.table.node(self.at, steps);
         if self.takes(&node, steps) {
             self.taken.push(node);
+            self.product.push(literal_with(node.var));
             self.left -= 1;
             self.at = node.hi;
         } else {
@@ -115,6 +119,7 @@ impl<'a> Walk<'a> {
         ensures end { result ≡ false → to_come self.new ≡ [] }
     {
         if let Some(node) = self.taken.pop() {
+            self.product.pop();
             self.left += 1;
             self.at = node.lo;
             return true;
@@ -143,12 +148,19 @@ impl<'a> Walk<'a> {
         true
     }
 
-    /// Makes a product that of the next member; false where none is left.
-    pub(crate) fn next<L: Ledger>(&mut self, product: &mut Product, steps: &mut Steps<L>) -> bool
+    /// The literals of the member given last.
+    pub(crate) fn product(&self) -> &Product
+        ensures { result.now ≡ self.now.product }
+    {
+        &self.product
+    }
+
+    /// Goes to the next member, whose literals are those taken; false where none is left.
+    pub(crate) fn advance<L: Ledger>(&mut self, steps: &mut Steps<L>) -> bool
         requires walk { IsWalk self.old }
         ensures walk { IsWalk self.new }
         ensures some { IsTrue result →
-            to_come self.old ≡ literals_of product.new.items ∷ to_come self.new }
+            to_come self.old ≡ literals_of self.new.product.items ∷ to_come self.new }
         ensures none { result ≡ false → (to_come self.old ≡ []) × (to_come self.new ≡ []) }
     {
         if !self.rise(steps) {
@@ -156,7 +168,6 @@ impl<'a> Walk<'a> {
         }
         self.descend(steps);
         self.at = NodeId::EMPTY;
-        take_nodes(product, &self.taken);
         true
     }
 }

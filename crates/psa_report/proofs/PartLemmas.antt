@@ -2,13 +2,8 @@
 use Rattle.std.proofs.Common.{◌≡◌, ◌≤◌, ℕ, List, [], ◌++◌, codes, map, drop, length, ap, arith}
 use Rattle.std.proofs.lemmas.Grind.{common_steps}
 use Rattle.std.proofs.lemmas.List.{drop_all}
-use Rattle.psa_model.specs.declared.expanded.Expanded.{Expanded}
 use Rattle.psa_model.specs.declared.ids.EventId.{EventId}
-use Rattle.psa_model.specs.declared.ids.EventNumber.{EventNumber}
-use Rattle.psa_model.specs.declared.product.Literal.{Literal}
-use Rattle.psa_model.specs.Literals.{literals_of}
 use Rattle.psa_model.specs.Names.{held_members}
-use Rattle.psa_model.specs.Report.{literal_text}
 use Rattle.psa_report.specs.Joined.{separated}
 
 -- the ends of an interval
@@ -33,22 +28,11 @@ pub totals-in-parts : (count rare min_cut : List ℕ)
     → (codes "count " ++ (count ++ (codes "\n" ++ []))) ++ (rare ++ min_cut) ≡ codes "count " ++ count ++ codes "\n" ++ (rare ++ min_cut)
 totals-in-parts count rare min_cut = grind (arith, common_steps)
 
--- the line of a product
-pub product-in-parts : (order bound literals : List ℕ)
-    → (codes "- " ++ (order ++ [])) ++ (bound ++ (literals ++ codes "\n")) ≡ codes "- " ++ order ++ bound ++ literals ++ codes "\n"
-product-in-parts order bound literals = grind (arith, common_steps)
-
 -- the line of a fault
 pub fault-in-parts : (file line words name : List ℕ)
     → codes "scram: " ++ (file ++ ((codes ":" ++ (line ++ (codes ": " ++ (words ++ [])))) ++ (name ++ codes "\n")))
     ≡ codes "scram: " ++ file ++ codes ":" ++ line ++ codes ": " ++ (words ++ name) ++ codes "\n"
 fault-in-parts file line words name = grind (arith, common_steps)
-
--- no literal is left
-pub no-literals : (expanded : Expanded) (ranks : List EventNumber) (literals : List Literal) (i : ℕ) (separator : List ℕ)
-    → length literals ≤ i → separated separator (map (literal_text expanded ranks) (literals_of (drop i literals))) ≡ []
-no-literals expanded ranks literals i separator past =
-    ap (λ (ls : List Literal). separated separator (map (literal_text expanded ranks) (literals_of ls))) (drop_all i literals past)
 
 -- no member is left
 pub no-members : (f : EventId → List ℕ) (left : ℕ) (ids : List EventId) (i : ℕ) (separator : List ℕ)

@@ -1,35 +1,38 @@
-ghost use Rattle.std.specs.Prelude.{◌≡◌, ◌++◌, codes, decimal, IfSome, IsTrue};
-ghost use Rattle.psa_logic.specs.Products.{literal_number};
+ghost use Rattle.std.specs.Prelude.{◌≡◌, ◌≤◌, ◌<◌, ◌+◌, ◌++◌, ◌∷◌, [], codes, drop, length, take, IsTrue};
 ghost use Rattle.psa_model.specs.Literals.{literals_of};
-ghost use Rattle.psa_model.specs.Report.{bound_text, ends_text, literal_text, literals_text, product_text};
-ghost use Rattle.psa_report.specs.Lines.{ended_literals, IsKept};
+ghost use Rattle.psa_model.specs.Report.{ends_text, product_text};
+ghost use Rattle.psa_report.specs.Lines.{Naming, made, spaced_bound, IsKept, IsExact, IsComposed};
 ghost use Rattle.psa_report.specs.Pieces.{Writes};
 
 use crate::WriteFault;
-use crate::intervals::put_interval;
 use crate::line::Line;
-use crate::names::put_ranked;
-use crate::pieces::{put_all, put_bytes, put_one};
-use crate::products::{sign, write_product};
-use itoa::Buffer;
-use psa_model::{EventNumber, Expanded, Literal, Product, Ranks};
+use crate::pieces::{put_bytes, put_one};
+use crate::products::{put_literal, put_order, put_some_bound, write_product};
+use psa_model::{EventNumber, Expanded, Literal, MAX_ORDER, Product, Ranks};
 use psa_number::Interval;
 use psa_ports::Sink;
+use psa_products::common_length;
 use std::marker::Model;
 
-/// A line that begins with the texts of literals, each with a space behind it.
+/// The line of a product without its bound, of which the first literals are kept from line to line.
 #[derive(Drop)]
 pub(crate) struct KeptLine {
     line: Line,
-    literals: Product,
-    /// How many bytes their texts have.
-    length: usize,
+    /// The order that the line begins with; 0 where it has no beginning.
+    order: usize,
+    /// How many bytes the beginning has.
+    start: usize,
+    literals: [Literal; MAX_ORDER],
+    /// Behind how many bytes the text of each literal ends.
+    ends: [usize; MAX_ORDER],
+    /// How many of the first literals and ends count.
+    count: usize,
 }
 
 /// The lines of products one after another, which are written by one model and one list of ranks.
 ///
-/// Lines in the order of a report mostly differ in the last literal alone: the text of those before it is kept
-/// from line to line. It takes no memory.
+/// From line to line the order and the text of the first literals are kept, up to the first literal that differs.
+/// It takes no memory.
 #[derive(Drop)]
 pub struct ProductLines<'a> {
     expanded: &'a Expanded,
@@ -55,162 +58,164 @@ impl<'a> Model for ProductLines<'a> {
         IsKept (record { expanded = l.expanded.now; ranks = l.ranks.now }) l.kept };
 }
 
-/// Whether two lists of literals are the same.
-fn is_same(left: &[Literal], right: &[Literal]) -> bool
-    ensures { IsTrue result → left.now ≡ right.now }
-{
-    left == right
-}
-
-/// Writes the text of a literal and what stands behind it.
-fn put_literal<S: Sink>(
-    out: &mut S,
-    expanded: &Expanded,
-    ranks: &[EventNumber],
-    literal: Literal,
-    ending: &str,
-) -> Result<(), WriteFault>
-    ensures { Writes (S.written out.old) (S.written out.new) (S.faults out.old) (S.faults out.new)
-        (literal_text expanded.now ranks.now (literal_number literal.rank literal.occurs)
-        ++ ending.now) result }
-{
-    put_one(out, sign(literal.occurs))?;
-    put_ranked(out, expanded, ranks, literal.rank)?;
-    put_one(out, ending)
-}
-
-/// Writes the texts of literals, each with a space behind it.
-fn put_each<S: Sink>(
-    out: &mut S,
-    expanded: &Expanded,
-    ranks: &[EventNumber],
-    literals: &[Literal],
-) -> Result<(), WriteFault>
-    ensures { Writes (S.written out.old) (S.written out.new) (S.faults out.old) (S.faults out.new)
-        (ended_literals (record { expanded = expanded.now; ranks = ranks.now }) (codes " ")
-        literals.now) result }
-{
-    for literal in literals {
-        put_literal(out, expanded, ranks, *literal, " ")?;
-    }
-    Ok(())
-}
-
 impl KeptLine {
-    /// Has the line begin with these literals; false where it has no room for them.
-    fn begin(&mut self, expanded: &Expanded, ranks: &[EventNumber], literals: &[Literal]) -> bool
-        requires { IsKept (record { expanded = expanded.now; ranks = ranks.now }) self.old }
-        ensures kept { IsKept (record { expanded = expanded.now; ranks = ranks.now }) self.new }
-        ensures begun { IsTrue result → self.new.literals.items ≡ literals.now }
+    /// A line without bytes.
+    fn new() -> KeptLine
+        ensures { (naming : Naming) → IsKept naming result }
     {
-        if is_same(self.literals.as_slice(), literals) {
+        KeptLine {
+            line: Line::new(),
+            order: 0,
+            start: 0,
+            literals: [Literal {
+                rank: 0,
+                occurs: true,
+            }; MAX_ORDER],
+            ends: [0; MAX_ORDER],
+            count: 0,
+        }
+    }
+
+    /// Has the line begin with an order; false where it has no room for it.
+    fn begin(&mut self, order: usize) -> bool
+        requires { 0 < order }
+        ensures kept { (naming : Naming) → IsKept naming self.old → IsKept naming self.new }
+        ensures order { IsTrue result → self.new.order ≡ order }
+    {
+        if self.order == order {
             return true;
         }
         self.line.truncate(0);
-        self.literals.clear();
-        self.length = 0;
-        if put_each(&mut self.line, expanded, ranks, literals).is_err() {
+        self.order = 0;
+        self.start = 0;
+        self.count = 0;
+        if put_order(&mut self.line, order).is_err() {
             return false;
         }
-        if self.literals.try_extend_from_slice(literals).is_err() {
-            return false;
-        }
-        self.length = self.line.len();
+        self.order = order;
+        self.start = self.line.len();
         true
     }
 
-    /// Makes the end of a product's line, its literals; false where there is none, or no room for them.
-    fn compose(&mut self, expanded: &Expanded, ranks: &[EventNumber], literals: &[Literal]) -> bool
-        requires { IsKept (record { expanded = expanded.now; ranks = ranks.now }) self.old }
-        ensures kept { IsKept (record { expanded = expanded.now; ranks = ranks.now }) self.new }
-        ensures line { IsTrue result → self.new.line.text.items
-            ≡ literals_text expanded.now ranks.now (literals_of literals.now) ++ codes "\n" }
+    /// Behind how many bytes what counts ends.
+    fn end(&self) -> usize
+        requires { self.now.count ≤ MAX_ORDER }
+        ensures { (naming : Naming) → IsKept naming self.now → result ≡ length (made naming self.now) }
     {
-        let Some((last, others)) = literals.split_last() else {
-            return false;
-        };
-        if !self.begin(expanded, ranks, others) {
+        if self.count == 0 {
+            return self.start;
+        }
+        self.ends[self.count - 1]
+    }
+
+    /// Keeps those of the first literals that are also the first of these.
+    fn keep(&mut self, literals: &[Literal])
+        requires { self.old.count ≤ MAX_ORDER }
+        ensures exact { (naming : Naming) → IsKept naming self.old → IsExact naming self.new }
+        ensures order { self.new.order ≡ self.old.order }
+        ensures few { self.new.count ≤ length literals.now }
+        ensures same { take self.new.count self.new.literals ≡ take self.new.count literals.now }
+    {
+        self.count = common_length(self.literals.split_at(self.count).0, literals);
+        let end = self.end();
+        self.line.truncate(end);
+    }
+
+    /// Appends a literal; false where there is no room for it.
+    fn push(&mut self, expanded: &Expanded, ranks: &[EventNumber], literal: Literal) -> bool
+        requires exact { IsExact (record { expanded = expanded.now; ranks = ranks.now }) self.old }
+        requires room { self.old.count < MAX_ORDER }
+        ensures kept { IsKept (record { expanded = expanded.now; ranks = ranks.now }) self.new }
+        ensures exact { IsTrue result
+            → IsExact (record { expanded = expanded.now; ranks = ranks.now }) self.new }
+        ensures order { self.new.order ≡ self.old.order }
+        ensures count { IsTrue result → self.new.count ≡ self.old.count + 1 }
+        ensures literals { IsTrue result → take self.new.count self.new.literals
+            ≡ take self.old.count self.old.literals ++ literal ∷ [] }
+    {
+        if put_literal(&mut self.line, expanded, ranks, literal).is_err() {
             return false;
         }
-        self.line.truncate(self.length);
-        put_literal(&mut self.line, expanded, ranks, *last, "\n").is_ok()
+        self.literals[self.count] = literal;
+        self.ends[self.count] = self.line.len();
+        self.count += 1;
+        true
+    }
+
+    /// Has the line be what it keeps of these literals and no more, and appends the others; false where there is no
+    /// room for them.
+    fn take(&mut self, expanded: &Expanded, ranks: &[EventNumber], literals: &[Literal]) -> bool
+        requires kept { IsKept (record { expanded = expanded.now; ranks = ranks.now }) self.old }
+        requires few { length literals.now ≤ MAX_ORDER }
+        ensures kept { IsKept (record { expanded = expanded.now; ranks = ranks.now }) self.new }
+        ensures exact { IsTrue result
+            → IsExact (record { expanded = expanded.now; ranks = ranks.now }) self.new }
+        ensures order { self.new.order ≡ self.old.order }
+        ensures literals { IsTrue result → take self.new.count self.new.literals ≡ literals.now }
+    {
+        self.keep(literals);
+        while self.count < literals.len() {
+            if !self.push(expanded, ranks, literals[self.count]) {
+                return false;
+            }
+        }
+        true
+    }
+
+    /// Makes the line of a product without its bound; false where the product has no literal, or the line no room.
+    fn compose(&mut self, expanded: &Expanded, ranks: &[EventNumber], literals: &[Literal]) -> bool
+        requires kept { IsKept (record { expanded = expanded.now; ranks = ranks.now }) self.old }
+        requires few { length literals.now ≤ MAX_ORDER }
+        ensures kept { IsKept (record { expanded = expanded.now; ranks = ranks.now }) self.new }
+        ensures line { IsTrue result → IsComposed
+            (record { expanded = expanded.now; ranks = ranks.now }) literals.now self.new }
+    {
+        if literals.is_empty() {
+            return false;
+        }
+        if !self.begin(literals.len()) {
+            return false;
+        }
+        if !self.take(expanded, ranks, literals) {
+            return false;
+        }
+        put_one(&mut self.line, "\n").is_ok()
     }
 }
 
-/// The beginning of the line of a product with few literals: its order between blanks.
-fn short_order(order: usize) -> Option<&'static str>
-    ensures { IfSome result (λ text. text.now ≡ codes "- " ++ decimal order ++ codes " ") }
-{
-    match order {
-        1 => Some("- 1 "),
-        2 => Some("- 2 "),
-        3 => Some("- 3 "),
-        4 => Some("- 4 "),
-        5 => Some("- 5 "),
-        6 => Some("- 6 "),
-        7 => Some("- 7 "),
-        8 => Some("- 8 "),
-        9 => Some("- 9 "),
-        _ => None,
-    }
-}
-
-/// Writes the beginning of a product's line: its order between blanks.
-fn put_order<S: Sink>(out: &mut S, order: usize) -> Result<(), WriteFault>
-    ensures { Writes (S.written out.old) (S.written out.new) (S.faults out.old) (S.faults out.new)
-        (codes "- " ++ decimal order ++ codes " ") result }
-{
-    match short_order(order) {
-        Some(text) => put_one(out, text),
-        None => put_all(out, &["- ", Buffer::new().format(order), " "]),
-    }
-}
-
-/// Writes a bound with a space behind it.
-fn put_bound<S: Sink>(out: &mut S, bound: Interval) -> Result<(), WriteFault>
-    ensures { Writes (S.written out.old) (S.written out.new) (S.faults out.old) (S.faults out.new)
-        (ends_text bound ++ codes " ") result }
-{
-    put_interval(out, bound)?;
-    put_one(out, " ")
-}
-
-/// Writes the beginning of the line of a product with a bound.
-fn put_bounded<S: Sink>(out: &mut S, order: usize, bound: Interval) -> Result<(), WriteFault>
-    ensures { Writes (S.written out.old) (S.written out.new) (S.faults out.old) (S.faults out.new)
-        (codes "- " ++ decimal order ++ (codes " " ++ ends_text bound ++ codes " ")) result }
-{
-    put_order(out, order)?;
-    put_bound(out, bound)
-}
-
-/// Writes what stands before the literals in the line of a product.
-fn put_beginning<S: Sink>(
+/// Writes the line of a product: its beginning, its bound, and what stands behind the bound.
+fn put_bounded<S: Sink>(
     out: &mut S,
-    order: usize,
-    bound: Option<Interval>,
-) -> Result<(), WriteFault>
-    ensures { Writes (S.written out.old) (S.written out.new) (S.faults out.old) (S.faults out.new)
-        (codes "- " ++ decimal order ++ bound_text bound) result }
-{
-    match bound {
-        None => put_order(out, order),
-        Some(bound) => put_bounded(out, order, bound),
-    }
-}
-
-/// Writes the line of a product, whose literals are made.
-fn put_line<S: Sink>(
-    out: &mut S,
-    order: usize,
-    bound: Option<Interval>,
+    beginning: &[u8],
+    bound: Interval,
     literals: &[u8],
 ) -> Result<(), WriteFault>
     ensures { Writes (S.written out.old) (S.written out.new) (S.faults out.old) (S.faults out.new)
-        (codes "- " ++ decimal order ++ bound_text bound ++ literals.now) result }
+        (beginning.now ++ ((codes " " ++ ends_text bound) ++ literals.now)) result }
 {
-    put_beginning(out, order, bound)?;
+    put_bytes(out, beginning)?;
+    put_some_bound(out, bound)?;
     put_bytes(out, literals)
+}
+
+/// Writes the line of a product, which is made but for its bound. Its beginning has `start` bytes.
+fn put_made<S: Sink>(
+    out: &mut S,
+    line: &[u8],
+    start: usize,
+    bound: Option<Interval>,
+) -> Result<(), WriteFault>
+    requires { start ≤ length line.now }
+    ensures { Writes (S.written out.old) (S.written out.new) (S.faults out.old) (S.faults out.new)
+        (take start line.now ++ (spaced_bound bound ++ drop start line.now)) result }
+{
+    match bound {
+        None => put_bytes(out, line),
+        Some(bound) => {
+            let (beginning, literals) = line.split_at(start);
+            put_bounded(out, beginning, bound, literals)
+        }
+    }
 }
 
 impl<'a> ProductLines<'a> {
@@ -221,11 +226,7 @@ impl<'a> ProductLines<'a> {
         ProductLines {
             expanded,
             ranks,
-            kept: KeptLine {
-                line: Line::new(),
-                literals: Product::new(),
-                length: 0,
-            },
+            kept: KeptLine::new(),
         }
     }
 
@@ -242,13 +243,13 @@ impl<'a> ProductLines<'a> {
             (product_text self.old.expanded self.old.ranks bound (literals_of product.now.items))
             result }
     {
-        if self
+        let literals = product.as_slice();
+        if !self
             .kept
-            .compose(self.expanded, self.ranks.as_slice(), product.as_slice())
+            .compose(self.expanded, self.ranks.as_slice(), literals)
         {
-            put_line(out, product.len(), bound, self.kept.line.as_slice())
-        } else {
-            write_product(out, self.expanded, self.ranks, product, bound)
+            return write_product(out, self.expanded, self.ranks, product, bound);
         }
+        put_made(out, self.kept.line.as_slice(), self.kept.start, bound)
     }
 }

@@ -1,7 +1,8 @@
-ghost use Rattle.std.specs.Prelude.{◌≡◌, ◌++◌, [], Option, codes, map, if◌then◌else◌};
+ghost use Rattle.std.specs.Prelude.{◌≡◌, ◌++◌, [], Option, codes, decimal, if◌then◌else◌};
+ghost use Rattle.psa_logic.specs.Products.{literal_number};
 ghost use Rattle.psa_model.specs.Literals.{literals_of};
-ghost use Rattle.psa_model.specs.Report.{bound_text, ends_text, literal_text, literals_text, product_text};
-ghost use Rattle.psa_report.specs.Joined.{separated};
+ghost use Rattle.psa_model.specs.Report.{literal_text, literals_text, product_text, ends_text};
+ghost use Rattle.psa_report.specs.Lines.{order_text, spaced_bound, spaced_literals};
 ghost use Rattle.psa_report.specs.Pieces.{Writes};
 
 use crate::WriteFault;
@@ -27,73 +28,91 @@ pub fn write_product<S: Sink>(
     ensures { Writes (S.written out.old) (S.written out.new) (S.faults out.old) (S.faults out.new)
         (product_text expanded.now ranks.now bound (literals_of product.now.items)) result }
 {
-    let mut order = Buffer::new();
-    put_all(out, &["- ", order.format(product.len())])?;
-    write_bound(out, bound)?;
-    write_literals(out, expanded, ranks.as_slice(), product.as_slice())?;
+    put_order(out, product.len())?;
+    put_bound(out, bound)?;
+    put_literals(out, expanded, ranks.as_slice(), product.as_slice())?;
     put_one(out, "\n")
 }
 
-/// Writes what stands between a product's order and its literals.
-fn write_bound<S: Sink>(out: &mut S, bound: Option<Interval>) -> Result<(), WriteFault>
+/// Writes the beginning of a product's line, its order.
+pub(crate) fn put_order<S: Sink>(out: &mut S, order: usize) -> Result<(), WriteFault>
     ensures { Writes (S.written out.old) (S.written out.new) (S.faults out.old) (S.faults out.new)
-        (bound_text bound) result }
+        (order_text order) result }
+{
+    put_all(out, &["- ", Buffer::new().format(order)])
+}
+
+/// Writes a bound behind a space, where there is one.
+fn put_bound<S: Sink>(out: &mut S, bound: Option<Interval>) -> Result<(), WriteFault>
+    ensures { Writes (S.written out.old) (S.written out.new) (S.faults out.old) (S.faults out.new)
+        (spaced_bound bound) result }
 {
     match bound {
-        None => put_one(out, " "),
-        Some(bound) => write_some_bound(out, bound),
+        None => put_all(out, &[]),
+        Some(bound) => put_some_bound(out, bound),
     }
 }
 
-/// Writes a bound between spaces.
-fn write_some_bound<S: Sink>(out: &mut S, bound: Interval) -> Result<(), WriteFault>
+/// Writes a bound behind a space.
+pub(crate) fn put_some_bound<S: Sink>(out: &mut S, bound: Interval) -> Result<(), WriteFault>
     ensures { Writes (S.written out.old) (S.written out.new) (S.faults out.old) (S.faults out.new)
-        (codes " " ++ ends_text bound ++ codes " ") result }
+        (codes " " ++ ends_text bound) result }
 {
     put_one(out, " ")?;
-    put_interval(out, bound)?;
-    put_one(out, " ")
+    put_interval(out, bound)
 }
 
-/// Writes literals joined by one space, or `unity` where there is none.
-fn write_literals<S: Sink>(
+/// Writes literals, each behind a space, or `unity` where there is none.
+fn put_literals<S: Sink>(
     out: &mut S,
     expanded: &Expanded,
     ranks: &[EventNumber],
     literals: &[Literal],
 ) -> Result<(), WriteFault>
     ensures { Writes (S.written out.old) (S.written out.new) (S.faults out.old) (S.faults out.new)
-        (literals_text expanded.now ranks.now (literals_of literals.now)) result }
+        (codes " " ++ literals_text expanded.now ranks.now (literals_of literals.now)) result }
 {
     if literals.is_empty() {
-        return put_one(out, "unity");
+        return put_one(out, " unity");
     }
-    write_joined(out, expanded, ranks, literals)
+    put_each(out, expanded, ranks, literals)
 }
 
-/// Writes literals joined by one space.
-fn write_joined<S: Sink>(
+/// Writes literals, each behind a space.
+fn put_each<S: Sink>(
     out: &mut S,
     expanded: &Expanded,
     ranks: &[EventNumber],
     literals: &[Literal],
 ) -> Result<(), WriteFault>
     ensures { Writes (S.written out.old) (S.written out.new) (S.faults out.old) (S.faults out.new)
-        (separated []
-        (map (literal_text expanded.now ranks.now) (literals_of literals.now))) result }
+        (spaced_literals (record { expanded = expanded.now; ranks = ranks.now }) literals.now)
+        result }
 {
-    let mut separator = "";
     for literal in literals {
-        put_all(out, &[separator, sign(literal.occurs)])?;
-        put_ranked(out, expanded, ranks, literal.rank)?;
-        separator = " ";
+        put_literal(out, expanded, ranks, *literal)?;
     }
     Ok(())
 }
 
-/// What stands before the name of an event that occurs, or does not.
-pub(crate) fn sign(occurs: bool) -> &'static str
-    ensures { result.now ≡ (if occurs then [] else codes "~") }
+/// Writes a literal behind a space: the name of its event, behind `~` where it does not occur.
+pub(crate) fn put_literal<S: Sink>(
+    out: &mut S,
+    expanded: &Expanded,
+    ranks: &[EventNumber],
+    literal: Literal,
+) -> Result<(), WriteFault>
+    ensures { Writes (S.written out.old) (S.written out.new) (S.faults out.old) (S.faults out.new)
+        (codes " " ++ literal_text expanded.now ranks.now
+        (literal_number literal.rank literal.occurs)) result }
 {
-    if occurs { "" } else { "~" }
+    put_one(out, spaced_sign(literal.occurs))?;
+    put_ranked(out, expanded, ranks, literal.rank)
+}
+
+/// What stands before the name of an event that occurs, or does not.
+fn spaced_sign(occurs: bool) -> &'static str
+    ensures { result.now ≡ codes " " ++ (if occurs then [] else codes "~") }
+{
+    if occurs { " " } else { " ~" }
 }

@@ -1,12 +1,12 @@
 -- Intervals of ranked events, the totals of products, and the listing of those that the cutoff keeps.
-use Rattle.std.proofs.Common.{◌≡◌, ◌+◌, ◌↔◌, codes, flat_map, ℕ, ℤ, Bool, true, List, [], ◌∷◌, ◌++◌, map, length, min, length-append, append_assoc, append-nil, Option, Some, None, option_and_then, unwrap_or, filter, IfSome, refl, sym, ap, subst, ◌∙◌, inl, inr, arith}
+use Rattle.std.proofs.Common.{◌≡◌, ◌+◌, ◌↔◌, codes, flat_map, ℕ, ℤ, Bool, true, List, [], ◌∷◌, ◌++◌, map, get_or, length, min, length-append, append_assoc, append-nil, Option, Some, None, option_and_then, unwrap_or, filter, IfSome, refl, sym, ap, subst, ◌∙◌, inl, inr, arith}
 use Rattle.std.specs.Fmt.{decimal}
 use Rattle.std.specs.Option.{option_map, option_map_or}
 use Rattle.std.specs.List.{All, slice_get}
 use Rattle.std.proofs.lemmas.Bool.{and_parts, and_from, cases_Bool, false≢true}
 use Rattle.std.proofs.lemmas.Int.{ints}
 use Rattle.std.proofs.lemmas.List.{map-append}
-use Rattle.std.proofs.lemmas.List.Elements.{All-get_or}
+use Rattle.std.proofs.lemmas.List.Elements.{All-from_get_or, All-get_or}
 use Rattle.std.proofs.lemmas.List.Sums.{fold-append}
 use Rattle.std.proofs.lemmas.Option.{slice_get_cases}
 use Rattle.psa_logic.specs.Sets.{Has}
@@ -18,6 +18,7 @@ use Rattle.psa_number.specs.Operations.{IsInUnit, complement_ends, decimal_ends,
 use Rattle.psa_number.specs.Scaled.{Scaled}
 use Rattle.psa_model.specs.declared.expanded.Expanded.{Expanded}
 use Rattle.psa_model.specs.declared.ids.EventNumber.{EventNumber}
+use Rattle.psa_model.specs.declared.product.Literal.{Literal}
 use Rattle.psa_model.specs.declared.product.TheConstants.{MAX_COUNT}
 use Rattle.psa_model.specs.declared.settings.Settings.{Settings}
 use Rattle.psa_model.specs.declared.targets.Target.{Target}
@@ -48,6 +49,14 @@ rank-in_unit values all ranks rank = on (slice_get ranks rank)
     on : (number : Option EventNumber) → IsInUnit (unwrap_or (option_and_then (λ (n : EventNumber). slice_get values n.0) number) zero_ends)
     on None = zero-in_unit
     on (Some number) = place-in_unit values all number.0
+
+-- the intervals of a product's events are within 0 and 1
+pub events-in_unit : (values : Option (List Ends)) (ranks : List EventNumber) (literals : List Literal) → IfSome values (All IsInUnit)
+    → IfSome values (λ (some : List Ends). All (λ (literal : Literal). IsInUnit (at_rank zero_ends some ranks literal.rank)) literals)
+events-in_unit None ranks literals all = tt
+events-in_unit (Some some) ranks literals all =
+    All-from_get_or (λ (literal : Literal). IsInUnit (at_rank zero_ends some ranks literal.rank)) literals (record { rank = 0; occurs = true })
+    (λ i within. rank-in_unit some all ranks (get_or literals i (record { rank = 0; occurs = true })).rank)
 
 -- a product without a bound counts as one with the bound 0
 pub counted-in_unit : (bound : Option Ends) → IfSome bound IsInUnit → IsInUnit (unwrap_or bound zero_ends)

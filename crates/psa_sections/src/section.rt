@@ -18,7 +18,7 @@ use psa_model::{Expanded, MAX_ORDER, Product, Ranks, Settings, Target, Values};
 use psa_nodes::{NodeId, NodeTable, Steps};
 use psa_number::{Interval, interval_of};
 use psa_ports::Sink;
-use psa_products::{Listing, Rule, Totals, bound};
+use psa_products::{Bounds, Lister, Rule, Totals, bound};
 use psa_report::{ProductLines, WriteFault, write_target, write_totals};
 use std::sync::ledger::Ledger;
 
@@ -55,7 +55,12 @@ pub fn least_end(settings: &Settings) -> Option<i128>
 }
 
 /// Whether the bound of a product reaches the least upper end; it is computed only where there is one.
-pub fn reaches(least: Option<i128>, values: &Option<Values>, ranks: &Ranks, product: &Product) -> bool
+pub fn reaches(
+    least: Option<i128>,
+    values: &Option<Values>,
+    ranks: &Ranks,
+    product: &Product,
+) -> bool
     requires { IfSome values.now (All IsInUnit) }
     ensures { result
         ≡ least_is_reached least (bound_by values.now ranks.now (literals_of product.now.items)) }
@@ -82,7 +87,7 @@ pub fn counted_bound(bound: &Option<Interval>) -> Interval
 fn write_listed<S: Sink, R: Rule, L: Ledger>(
     out: &mut S,
     subject: &Subject<'_>,
-    listing: &mut Listing<'_, R>,
+    lister: &mut Lister<'_, R>,
     totals: &mut Totals,
     steps: &mut Steps<L>,
 ) -> Result<(), WriteFault>
@@ -90,16 +95,17 @@ fn write_listed<S: Sink, R: Rule, L: Ledger>(
     requires totals { totals.old ≡ totals_by subject.now.values.now subject.now.ranks.now [] }
     ensures lines { Writes (S.written out.old) (S.written out.new) (S.faults out.old) (S.faults out.new)
         (flat_map (line_by subject.now.expanded.now subject.now.values.now subject.now.ranks.now)
-        listing.old) result }
+        lister.old.rest) result }
     ensures totals { OnOk result (totals.new
-        ≡ totals_by subject.now.values.now subject.now.ranks.now listing.old) }
+        ≡ totals_by subject.now.values.now subject.now.ranks.now lister.old.rest) }
 {
     let mut lines = ProductLines::new(subject.expanded, subject.ranks);
-    let mut product = Product::new();
-    while listing.next_into(&mut product, steps) {
-        let bound = product_bound(subject.values, subject.ranks, &product);
+    let mut bounds = Bounds::new(subject.values, subject.ranks);
+    while lister.advance(steps) {
+        let product = lister.product();
+        let bound = bounds.bound(product);
         let counted = counted_bound(&bound);
-        lines.write(out, &product, bound)?;
+        lines.write(out, product, bound)?;
         totals.take(counted);
     }
     Ok(())
@@ -130,10 +136,10 @@ fn write_kept<S: Sink, R: Rule, L: Ledger>(
         (text_by subject.now.settings.now subject.now.expanded.now subject.now.values.now
         subject.now.target.now subject.now.ranks.now kept) result }
 {
-    let mut listing = Listing::new(table, root, subject.settings.limit_order, rule);
+    let mut lister = Lister::new(table, root, subject.settings.limit_order, rule);
     let mut totals = Totals::new();
     write_target(out, &subject.expanded.model, subject.target)?;
-    write_listed(out, subject, &mut listing, &mut totals, steps)?;
+    write_listed(out, subject, &mut lister, &mut totals, steps)?;
     write_totals(out, subject.settings, &totals)
 }
 

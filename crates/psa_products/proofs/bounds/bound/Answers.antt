@@ -8,7 +8,8 @@ use Rattle.psa_model.specs.Literals.{literals_of}
 use Rattle.psa_model.specs.Quantities.{bound_of, one_ends}
 use Rattle.psa_model.specs.Values.{quantities_of}
 use Rattle.psa_model.proofs.HeldTotals.{bound-held}
-use Rattle.psa_products.proofs.BoundLemmas.{bound_step, bound-fold}
+use Rattle.psa_products.specs.PartialBounds.{bound_step}
+use Rattle.psa_products.proofs.BoundLemmas.{bound-fold}
 use Rattle.psa_products.proofs.bounds.bound.Goals as goal
 
 pub returns-clause-holds : goal.returns-clause-holds

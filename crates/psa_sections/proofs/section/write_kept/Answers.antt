@@ -9,13 +9,13 @@ use Rattle.psa_sections.proofs.section.write_kept.Goals as goal
 pub returns-in_err-write_target : goal.returns-in_err-write_target
 returns-in_err-write_target g c = λ keeps answers.
     let subject = c.args.subject.now in
-    let kept = c.new-listing.result in
+    let kept = c.new-lister.result.rest in
     let sums = totals_by subject.values.now subject.ranks.now kept in
     let front = target_line subject.expanded.now.model subject.target.now in
     let lines = flat_map (line_by subject.expanded.now subject.values.now subject.ranks.now) kept in
     let back = totals_text subject.settings.now sums.count sums.rare_event (complement_ends sums.rest) in (
       kept,
-      c.new-listing.ensures.listing keeps answers,
+      c.new-lister.ensures.listing keeps answers,
       left-stop _ _ _ _ _ _ front (lines ++ back) _ c.write_target.result c.from_residual.result _
           (left-of _ _ (front ++ (lines ++ back)) _ refl)
           c.write_target.ensures c.in_err-write_target.was c.from_residual.ensures.0,
@@ -24,13 +24,13 @@ returns-in_err-write_target g c = λ keeps answers.
 pub returns-in_err-write_listed : goal.returns-in_err-write_listed
 returns-in_err-write_listed g c = λ keeps answers.
     let subject = c.args.subject.now in
-    let kept = c.new-listing.result in
+    let kept = c.new-lister.result.rest in
     let sums = totals_by subject.values.now subject.ranks.now kept in
     let front = target_line subject.expanded.now.model subject.target.now in
     let lines = flat_map (line_by subject.expanded.now subject.values.now subject.ranks.now) kept in
     let back = totals_text subject.settings.now sums.count sums.rare_event (complement_ends sums.rest) in (
       kept,
-      c.new-listing.ensures.listing keeps answers,
+      c.new-lister.ensures.listing keeps answers,
       left-stop _ _ _ _ _ _ lines back _ c.write_listed.result c.from_residual-in_err-write_listed.result _
           (left-next _ _ _ _ _ _ front (lines ++ back) _ c.write_target.result _
           (left-of _ _ (front ++ (lines ++ back)) _ refl)
@@ -41,13 +41,13 @@ returns-in_err-write_listed g c = λ keeps answers.
 pub returns : goal.returns
 returns g c = λ keeps answers.
     let subject = c.args.subject.now in
-    let kept = c.new-listing.result in
+    let kept = c.new-lister.result.rest in
     let sums = totals_by subject.values.now subject.ranks.now kept in
     let front = target_line subject.expanded.now.model subject.target.now in
     let lines = flat_map (line_by subject.expanded.now subject.values.now subject.ranks.now) kept in
     let back = totals_text subject.settings.now sums.count sums.rare_event (complement_ends sums.rest) in (
       kept,
-      c.new-listing.ensures.listing keeps answers,
+      c.new-lister.ensures.listing keeps answers,
       left-last _ _ _ _ _ _ back _ c.write_totals.result
           (left-next _ _ _ _ _ _ lines back _ c.write_listed.result _
           (left-next _ _ _ _ _ _ front (lines ++ back) _ c.write_target.result _

@@ -1,45 +1,67 @@
-use Rattle.std.proofs.Common.{Option, ◌∙◌, ap, flat_map, unwrap_or}
+use Rattle.std.proofs.Common.{List, Option, IfSome, ◌∙◌, ap, subst, sym, flat_map, unwrap_or}
+use Rattle.std.specs.List.{All}
+use Rattle.std.specs.Option.{option_map}
+use Rattle.psa_model.specs.declared.product.Literal.{Literal}
 use Rattle.psa_model.specs.Literals.{literals_of}
-use Rattle.psa_model.specs.Quantities.{zero_ends}
+use Rattle.psa_model.specs.Quantities.{at_rank, bound_of, zero_ends}
 use Rattle.psa_model.specs.Report.{product_text}
 use Rattle.psa_number.specs.Ends.{Ends}
+use Rattle.psa_number.specs.Operations.{IsInUnit}
+use Rattle.psa_products.specs.PartialBounds.{Valuation}
 use Rattle.psa_report.specs.Lines.{Naming}
 use Rattle.psa_report.proofs.WrittenLemmas.{left-as, left-stop, left-next, left-end, written-as}
-use Rattle.psa_sections.specs.Writing.{line_by}
-use Rattle.psa_sections.proofs.SectionLemmas.{done-more}
+use Rattle.psa_sections.specs.Writing.{bound_by, line_by}
+use Rattle.psa_sections.proofs.SectionLemmas.{done-more, events-in_unit}
 use Rattle.psa_sections.proofs.section.write_listed.Goals as goal
+
+pub bound-bound-requires : goal.bound-bound-requires
+bound-bound-requires g c =
+    let items = c.product-product.result.now.items in
+    subst (λ (v : Valuation). IfSome v.values (λ (some : List Ends). All (λ (literal : Literal). IsInUnit (at_rank zero_ends some v.ranks literal.rank)) items)) (sym c.loop-lines.invariant.bounds)
+    (events-in_unit c.args.subject.now.values.now c.args.subject.now.ranks.now items c.requires.values)
 
 pub returns-in_err-write-clause-lines : goal.returns-in_err-write-clause-lines
 returns-in_err-write-clause-lines g c =
-    let line = line_by c.args.subject.now.expanded.now c.args.subject.now.values.now c.args.subject.now.ranks.now in
-    let literals = literals_of c.next_into.new.product.items in
-    left-stop _ _ _ _ _ _ (line literals) (flat_map line c.next_into.new.self) _ c.write.result c.from_residual.result _
-    (left-as _ _ _ _ _ _ _ c.loop-lines.invariant.lines (ap (flat_map line) (c.next_into.ensures.some c.loop-lines-test.true)))
+    let subject = c.args.subject.now in
+    let line = line_by subject.expanded.now subject.values.now subject.ranks.now in
+    let items = c.product-product.result.now.items in
+    left-stop _ _ _ _ _ _ (line (literals_of c.advance.new.self.product)) (flat_map line c.advance.new.self.rest) _ c.write.result c.from_residual.result _
+    (left-as _ _ _ _ _ _ _ c.loop-lines.invariant.lines (ap (flat_map line) (c.advance.ensures.some c.loop-lines-test.true)))
     (written-as _ _ _ _ _ _ c.write.result c.write.ensures.line
-    (ap (λ (naming : Naming). product_text naming.expanded naming.ranks c.product_bound-bound.result literals) c.loop-lines.invariant.naming
-    ∙ ap (λ (bound : Option Ends). product_text c.args.subject.now.expanded.now c.args.subject.now.ranks.now bound literals) c.product_bound-bound.ensures.exact))
+    (ap (λ (naming : Naming). product_text naming.expanded naming.ranks c.bound-bound.result (literals_of items)) c.loop-lines.invariant.naming
+    ∙ ap (λ (bound : Option Ends). product_text subject.expanded.now subject.ranks.now bound (literals_of items))
+    (c.bound-bound.ensures.exact ∙ ap (λ (v : Valuation). option_map (λ (some : List Ends). bound_of some v.ranks (literals_of items)) v.values) c.loop-lines.invariant.bounds)
+    ∙ ap (λ (literals : List Literal). line (literals_of literals)) c.product-product.ensures))
     c.in_err-write.was c.from_residual.ensures.0
 
 pub loop-lines-preserved : goal.loop-lines-preserved
 loop-lines-preserved g c =
-    let line = line_by c.args.subject.now.expanded.now c.args.subject.now.values.now c.args.subject.now.ranks.now in
-    let literals = literals_of c.next_into.new.product.items in
+    let subject = c.args.subject.now in
+    let line = line_by subject.expanded.now subject.values.now subject.ranks.now in
+    let items = c.product-product.result.now.items in
     record {
       naming = c.write.ensures.same ∙ c.loop-lines.invariant.naming;
-      totals = done-more c.args.subject.now.values.now c.args.subject.now.ranks.now _ _ _ _ _ literals _ c.loop-lines.invariant.totals (c.next_into.ensures.some c.loop-lines-test.true)
-          (c.counted_bound-counted.ensures.exact ∙ ap (λ (bound : Option Ends). unwrap_or bound zero_ends) c.product_bound-bound.ensures.exact)
+      bounds = c.bound-bound.ensures.same ∙ c.loop-lines.invariant.bounds;
+      totals = done-more subject.values.now subject.ranks.now _ _ _ _ _ (literals_of c.advance.new.self.product) _ c.loop-lines.invariant.totals (c.advance.ensures.some c.loop-lines-test.true)
+          (c.counted_bound-counted.ensures.exact
+          ∙ ap (λ (bound : Option Ends). unwrap_or bound zero_ends)
+          (c.bound-bound.ensures.exact
+          ∙ ap (λ (v : Valuation). option_map (λ (some : List Ends). bound_of some v.ranks (literals_of items)) v.values) c.loop-lines.invariant.bounds
+          ∙ ap (λ (literals : List Literal). bound_by subject.values.now subject.ranks.now (literals_of literals)) c.product-product.ensures))
           c.take.ensures.exact;
       lines =
-          left-next _ _ _ _ _ _ (line literals) (flat_map line c.next_into.new.self) _ c.write.result _
-          (left-as _ _ _ _ _ _ _ c.loop-lines.invariant.lines (ap (flat_map line) (c.next_into.ensures.some c.loop-lines-test.true)))
+          left-next _ _ _ _ _ _ (line (literals_of c.advance.new.self.product)) (flat_map line c.advance.new.self.rest) _ c.write.result _
+          (left-as _ _ _ _ _ _ _ c.loop-lines.invariant.lines (ap (flat_map line) (c.advance.ensures.some c.loop-lines-test.true)))
           (written-as _ _ _ _ _ _ c.write.result c.write.ensures.line
-          (ap (λ (naming : Naming). product_text naming.expanded naming.ranks c.product_bound-bound.result literals) c.loop-lines.invariant.naming
-          ∙ ap (λ (bound : Option Ends). product_text c.args.subject.now.expanded.now c.args.subject.now.ranks.now bound literals) c.product_bound-bound.ensures.exact))
+          (ap (λ (naming : Naming). product_text naming.expanded naming.ranks c.bound-bound.result (literals_of items)) c.loop-lines.invariant.naming
+          ∙ ap (λ (bound : Option Ends). product_text subject.expanded.now subject.ranks.now bound (literals_of items))
+          (c.bound-bound.ensures.exact ∙ ap (λ (v : Valuation). option_map (λ (some : List Ends). bound_of some v.ranks (literals_of items)) v.values) c.loop-lines.invariant.bounds)
+          ∙ ap (λ (literals : List Literal). line (literals_of literals)) c.product-product.ensures))
           c.in_ok-write.was;
     }
 
 pub returns-clause-lines : goal.returns-clause-lines
 returns-clause-lines g c =
     let line = line_by c.args.subject.now.expanded.now c.args.subject.now.values.now c.args.subject.now.ranks.now in
-    let none = c.next_into.ensures.none c.loop-lines-test.false in
+    let none = c.advance.ensures.none c.loop-lines-test.false in
     left-end _ _ _ _ _ (left-as _ _ _ _ _ _ _ c.loop-lines.invariant.lines (ap (flat_map line) none.0))

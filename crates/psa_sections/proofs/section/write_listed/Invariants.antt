@@ -7,11 +7,12 @@ use Rattle.psa_sections.proofs.section.write_listed.Given as goal
 abbrev pub invariant-loop-lines : goal.invariant-loop-lines
 invariant-loop-lines g l = record {
   naming : l.lines ≡ record { expanded = l.subject.expanded.now; ranks = l.subject.ranks.now };
-  totals : AreDone l.subject.values.now l.subject.ranks.now l.fn.listing l.listing l.totals;
+  bounds : l.bounds ≡ record { values = l.subject.values.now; ranks = l.subject.ranks.now };
+  totals : AreDone l.subject.values.now l.subject.ranks.now l.fn.lister.rest l.lister.rest l.totals;
   lines : Left (g.S.Sink.written l.fn.out) (g.S.Sink.written l.out) (g.S.Sink.faults l.fn.out) (g.S.Sink.faults l.out)
-      (flat_map (line_by l.subject.expanded.now l.subject.values.now l.subject.ranks.now) l.listing)
-      (flat_map (line_by l.subject.expanded.now l.subject.values.now l.subject.ranks.now) l.fn.listing);
+      (flat_map (line_by l.subject.expanded.now l.subject.values.now l.subject.ranks.now) l.lister.rest)
+      (flat_map (line_by l.subject.expanded.now l.subject.values.now l.subject.ranks.now) l.fn.lister.rest);
 }
 
 abbrev pub decreases-loop-lines : goal.decreases-loop-lines
-decreases-loop-lines g l = length l.listing
+decreases-loop-lines g l = length l.lister.rest

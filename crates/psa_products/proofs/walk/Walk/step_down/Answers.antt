@@ -1,5 +1,6 @@
-use Rattle.std.proofs.Common.{ℕ, arith, subst}
+use Rattle.std.proofs.Common.{[], ◌∷◌, ◌++◌, ap, ◌∙◌, arith}
 use Rattle.psa_nodes.specs.declared.node.Kind.TheVariants.{Zbdd}
+use Rattle.psa_model.specs.declared.product.Literal.{Literal}
 use Rattle.psa_nodes.proofs.CallerLemmas.{some-inner}
 use Rattle.psa_products.proofs.StepLemmas.{inner, inner-node, few-left, down-hi, down-lo}
 use Rattle.psa_products.proofs.walk.Walk.step_down.Goals as goal
@@ -20,7 +21,8 @@ takes-requires-clause-left g c = omega (arith, few-left c.args.self.now c.requir
 pub returns-then-takes-clause-walk : goal.returns-then-takes-clause-walk
 returns-then-takes-clause-walk g c =
     let yes-side = c.takes.ensures.yes c.if-takes.true in
-    (down-hi c.args.self.now c.requires.walk c.node-node.ensures.table.fit c.node-node.result c.node-node.ensures.node c.push.new.self c.push.ensures.items yes-side.0 yes-side.1).walk
+    (down-hi c.args.self.now c.requires.walk c.node-node.ensures.table.fit c.node-node.result c.node-node.ensures.node c.push.new.self c.push.ensures.items
+    c.push-then-takes.new.self (c.push-then-takes.ensures.items ∙ ap (λ (literal : Literal). c.args.self.now.product.items ++ literal ∷ []) c.literal_with.ensures) yes-side.0 yes-side.1).walk
 
 pub returns-else-takes-clause-walk : goal.returns-else-takes-clause-walk
 returns-else-takes-clause-walk g c =
@@ -29,7 +31,8 @@ returns-else-takes-clause-walk g c =
 pub returns-then-takes-clause-member : goal.returns-then-takes-clause-member
 returns-then-takes-clause-member g c =
     let yes-side = c.takes.ensures.yes c.if-takes.true in
-    (down-hi c.args.self.now c.requires.walk c.node-node.ensures.table.fit c.node-node.result c.node-node.ensures.node c.push.new.self c.push.ensures.items yes-side.0 yes-side.1).member
+    (down-hi c.args.self.now c.requires.walk c.node-node.ensures.table.fit c.node-node.result c.node-node.ensures.node c.push.new.self c.push.ensures.items
+    c.push-then-takes.new.self (c.push-then-takes.ensures.items ∙ ap (λ (literal : Literal). c.args.self.now.product.items ++ literal ∷ []) c.literal_with.ensures) yes-side.0 yes-side.1).member
 
 pub returns-else-takes-clause-member : goal.returns-else-takes-clause-member
 returns-else-takes-clause-member g c =
@@ -38,7 +41,8 @@ returns-else-takes-clause-member g c =
 pub returns-then-takes-clause-same : goal.returns-then-takes-clause-same
 returns-then-takes-clause-same g c =
     let yes-side = c.takes.ensures.yes c.if-takes.true in
-    (down-hi c.args.self.now c.requires.walk c.node-node.ensures.table.fit c.node-node.result c.node-node.ensures.node c.push.new.self c.push.ensures.items yes-side.0 yes-side.1).same
+    (down-hi c.args.self.now c.requires.walk c.node-node.ensures.table.fit c.node-node.result c.node-node.ensures.node c.push.new.self c.push.ensures.items
+    c.push-then-takes.new.self (c.push-then-takes.ensures.items ∙ ap (λ (literal : Literal). c.args.self.now.product.items ++ literal ∷ []) c.literal_with.ensures) yes-side.0 yes-side.1).same
 
 pub returns-else-takes-clause-same : goal.returns-else-takes-clause-same
 returns-else-takes-clause-same g c =
@@ -47,7 +51,8 @@ returns-else-takes-clause-same g c =
 pub returns-then-takes-clause-lower : goal.returns-then-takes-clause-lower
 returns-then-takes-clause-lower g c =
     let yes-side = c.takes.ensures.yes c.if-takes.true in
-    (down-hi c.args.self.now c.requires.walk c.node-node.ensures.table.fit c.node-node.result c.node-node.ensures.node c.push.new.self c.push.ensures.items yes-side.0 yes-side.1).lower
+    (down-hi c.args.self.now c.requires.walk c.node-node.ensures.table.fit c.node-node.result c.node-node.ensures.node c.push.new.self c.push.ensures.items
+    c.push-then-takes.new.self (c.push-then-takes.ensures.items ∙ ap (λ (literal : Literal). c.args.self.now.product.items ++ literal ∷ []) c.literal_with.ensures) yes-side.0 yes-side.1).lower
 
 pub returns-else-takes-clause-lower : goal.returns-else-takes-clause-lower
 returns-else-takes-clause-lower g c =
