@@ -1,6 +1,8 @@
 -- The diagrams of the places of a graph: how each is made of those of the places that its node names.
-use Rattle.std.proofs.Common.{◌≡◌, ◌<◌, ◌≤◌, ◌+◌, ◌==◌, ℕ, suc, zero, Bool, true, false, List, [], ◌∷◌, ◌++◌, length, get_or, not, if◌then◌else◌, Result, Ok, Err, IfOk, OnOk, refl, sym, ap, ap₂, ◌∙◌, subst, inl, inr, arith, length-append}
+use Rattle.std.proofs.Common.{◌≡◌, ◌<◌, ◌≤◌, ◌+◌, ◌==◌, ℕ, Bool, true, false, List, [], ◌∷◌, ◌++◌, length, get_or, not, if◌then◌else◌, Result, Ok, Err, IfOk, OnOk, refl, sym, ap, ap₂, ◌∙◌, subst, inl, inr, arith, length-append}
 use Rattle.std.proofs.lemmas.Bool.Decides.{eqb_tells}
+use Rattle.std.proofs.lemmas.List.{get_or_append_left}
+use Rattle.std.proofs.Math.Seq.{get_or-append_seam}
 use Rattle.psa_graph.specs.declared.graph.Graph.{Graph}
 use Rattle.psa_graph.specs.declared.graph.GraphNode.{GraphNode}
 use Rattle.psa_graph.specs.declared.graph.GraphNode.TheVariants as nodes
@@ -15,14 +17,15 @@ use Rattle.psa_nodes.specs.declared.node.TheConstants.NodeId.{FALSE}
 use Rattle.psa_nodes.specs.Readings.{Reading, truth, stands, node_reading, first_literal}
 use Rattle.psa_nodes.specs.Nodes.{Grown, IsOnly}
 use Rattle.psa_nodes.specs.Table.{Table, IsTable, MakesNode}
-use Rattle.psa_nodes.specs.Progress.{IsCall, IsResult}
+use Rattle.psa_nodes.specs.Progress.{pair_level, IsCall, IsResult}
 use Rattle.psa_nodes.specs.Cofactors.{assigned}
 use Rattle.psa_nodes.proofs.CallerLemmas.{truth-terminal, stands-terminal, stands-weaker, stands-below, stands-kept, truth-kept, assigned-past, only, call-node, call-wide}
 use Rattle.psa_bdd.specs.declared.connective.Connective.{Connective}
-use Rattle.psa_bdd.specs.Combined.{apply, operation_of, pair_level, IsCofactors, IsCombining}
-use Rattle.psa_bdd.specs.Building.{IsCofactorOf, IsCofactorOfPlace, IsDiagramOf, IsBuilt, HoldsOfSides, HoldsOfSidesAt, IsNeeded, AreNeeds}
+use Rattle.psa_bdd.specs.Combined.{apply, operation_of, IsCofactors, IsCombining}
+use Rattle.psa_bdd.specs.Building.{IsCofactorOf, IsCofactorOfPlace, IsDiagramOf, IsBuilt}
+use Rattle.psa_graph.specs.Needs.{HoldsOfSides, HoldsOfSidesAt, IsNeeded, AreNeeds}
 use Rattle.psa_bdd.proofs.ConnectiveLemmas.{result-stands, result-reads}
-use Rattle.psa_bdd.proofs.PlaceTruthLemmas.{node-behind}
+use Rattle.psa_graph.proofs.PlaceTruthLemmas.{node-behind}
 
 -- a diagram stays one when the table grows
 pub diagram-kept : {f : (ℕ → Bool) → Bool} {before now : List Node} → Grown before now → (id : ℕ) → IsDiagramOf f before id → IsDiagramOf f now id
@@ -142,16 +145,6 @@ AreBuilt graph needed ns built =
 pub built-none : (graph : Graph) (needed : List Bool) (ns : List Node) (built : List NodeId) → built ≡ [] → AreBuilt graph needed ns built
 built-none graph needed ns built e place inside need = absurd (omega (arith, inside, ap (length {A = NodeId}) e))
 
--- an item more at the end
-pushed-older : (xs : List NodeId) (x : NodeId) (i : ℕ) → i < length xs → get_or (xs ++ (x ∷ [])) i FALSE ≡ get_or xs i FALSE
-pushed-older [] x i l = absurd (omega arith)
-pushed-older (y ∷ ys) x zero l = refl
-pushed-older (y ∷ ys) x (suc i) l = pushed-older ys x i (omega arith)
-
-pushed-newest : (xs : List NodeId) (x : NodeId) → get_or (xs ++ (x ∷ [])) (length xs) FALSE ≡ x
-pushed-newest [] x = refl
-pushed-newest (y ∷ ys) x = pushed-newest ys x
-
 -- those that a needed node names are among them
 pub sides-built : (graph : Graph) (needed : List Bool) (ns : List Node) (built : List NodeId) → IsGraph graph → AreNeeds graph needed → AreBuilt graph needed ns built → IsNeeded needed (length built) → HoldsOfSidesAt (IsBuilt graph ns built) graph (length built)
 sides-built graph needed ns built ok needs are need node e =
@@ -171,12 +164,12 @@ built-more graph needed before now built after id g are last e =
     more : AreBuilt graph needed now (built ++ (id ∷ []))
     more place inside need = elim (eqb_tells place (length built)) [
       | inl p ↦
-          subst (λ (x : NodeId). IsDiagramOf (place_truth graph place) now x.0) (sym (ap (λ i. get_or (built ++ (id ∷ [])) i FALSE) p.1 ∙ pushed-newest built id))
+          subst (λ (x : NodeId). IsDiagramOf (place_truth graph place) now x.0) (sym (ap (λ i. get_or (built ++ (id ∷ [])) i FALSE) p.1 ∙ get_or-append_seam built id [] FALSE))
           (subst (λ i. IsDiagramOf (place_truth graph i) now id.0) (sym p.1) (last (subst (IsNeeded needed) p.1 need)))
       | inr p ↦
           let long : length (built ++ (id ∷ [])) ≡ length built + 1 = length-append built (id ∷ []) in
           let l : place < length built = omega (arith, p.1) in
-          subst (λ (x : NodeId). IsDiagramOf (place_truth graph place) now x.0) (sym (pushed-older built id place l))
+          subst (λ (x : NodeId). IsDiagramOf (place_truth graph place) now x.0) (sym (get_or_append_left built (id ∷ []) FALSE place l))
           (diagram-kept g (get_or built place FALSE).0 (are place l need))
     ]
 

@@ -8,10 +8,10 @@ use Rattle.psa_nodes.specs.declared.node.NodeError.{NodeError}
 use Rattle.psa_nodes.specs.Readings.{Reading, truth, stands}
 use Rattle.psa_nodes.specs.Nodes.{AllFit, Grown}
 use Rattle.psa_nodes.specs.Table.{Table, Lacks}
-use Rattle.psa_nodes.specs.Progress.{IsCall, IsResult, key_level}
+use Rattle.psa_nodes.specs.Progress.{pair_level, IsCall, IsResult, key_level}
 use Rattle.psa_nodes.proofs.CallerLemmas.{stands-below, stands-kept, stands-weaker, truth-kept, level-kept, call-then, call-wide, progress-lacks}
 use Rattle.psa_bdd.specs.declared.connective.Connective.{Connective}
-use Rattle.psa_bdd.specs.Combined.{operation_of, key_of, pair_level, IsCofactors, IsSplit, IsReady}
+use Rattle.psa_bdd.specs.Combined.{operation_of, key_of, IsCofactors, IsSplit, IsReady}
 use Rattle.psa_bdd.proofs.KeyLemmas.{key-level}
 use Rattle.psa_bdd.proofs.LevelLemmas.{pair-past}
 use Rattle.psa_bdd.proofs.SidesLemmas.{split-kept, high-origin, low-origin, result-kept, ready-sides}

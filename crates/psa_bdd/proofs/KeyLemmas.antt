@@ -7,9 +7,9 @@ use Rattle.psa_nodes.specs.declared.node.NodeId.{NodeId}
 use Rattle.psa_nodes.specs.Readings.{reading, truth, stands}
 use Rattle.psa_nodes.specs.Nodes.{AllFit}
 use Rattle.psa_nodes.specs.Table.{IsRight}
-use Rattle.psa_nodes.specs.Progress.{IsResult, key_level}
+use Rattle.psa_nodes.specs.Progress.{pair_level, IsResult, key_level}
 use Rattle.psa_bdd.specs.declared.connective.Connective.{Connective}
-use Rattle.psa_bdd.specs.Combined.{apply, operation_of, key_of, pair_level}
+use Rattle.psa_bdd.specs.Combined.{apply, operation_of, key_of}
 use Rattle.psa_bdd.proofs.ConnectiveLemmas.{computes-from, computes-to, operand-bdd, result-bdd, has-right, apply-comm, is_result, result-stands, result-reads}
 
 module _ (c : Connective) (ns : List Node) (left right : NodeId) where

@@ -5,7 +5,7 @@ use Rattle.psa_nodes.specs.declared.node.Node.{Node}
 use Rattle.psa_nodes.specs.declared.node.TheConstants.{MAX_RANKS}
 use Rattle.psa_nodes.specs.Readings.{stands, level}
 use Rattle.psa_nodes.proofs.CallerLemmas.{level-stands}
-use Rattle.psa_bdd.specs.Combined.{pair_level}
+use Rattle.psa_nodes.specs.Progress.{pair_level}
 
 -- how far the operands stand before the end of all literals
 abbrev pub left_above : List Node → ℕ → ℕ → ℕ

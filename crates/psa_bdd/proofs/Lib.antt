@@ -3,7 +3,5 @@ pub mod KeyLemmas
 pub mod LevelLemmas
 pub mod SidesLemmas
 pub mod CombineSteps
-pub mod PlaceTruthLemmas
-pub mod MarkLemmas
 pub mod BuildLemmas
 pub mod CallerLemmas

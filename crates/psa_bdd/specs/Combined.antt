@@ -1,5 +1,5 @@
 -- Conjunction and disjunction of decision diagrams (Bryant).
-use Rattle.std.specs.Prelude.{◌≡◌, ◌<◌, ◌+◌, ℕ, min, Bool, true, List, ◌&&◌, ◌||◌, nat_le, Result, if◌then◌else◌}
+use Rattle.std.specs.Prelude.{◌≡◌, ◌<◌, ◌+◌, ℕ, Bool, true, List, ◌&&◌, ◌||◌, nat_le, Result, if◌then◌else◌}
 use Rattle.psa_nodes.specs.declared.node.Kind.{Kind}
 use Rattle.psa_nodes.specs.declared.node.Kind.TheVariants.{Bdd}
 use Rattle.psa_nodes.specs.declared.node.Node.{Node}
@@ -11,10 +11,10 @@ use Rattle.psa_nodes.specs.declared.node.TheConstants.MemoKey.{NO_LIMIT}
 use Rattle.psa_nodes.specs.declared.node.NodeError.{NodeError}
 use Rattle.psa_nodes.specs.declared.node.Operation.{Operation}
 use Rattle.psa_nodes.specs.declared.node.Operation.TheVariants as operations
-use Rattle.psa_nodes.specs.Readings.{Reading, truth, stands, level}
+use Rattle.psa_nodes.specs.Readings.{Reading, truth, stands}
 use Rattle.psa_nodes.specs.Nodes.{AllFit}
 use Rattle.psa_nodes.specs.Table.{Table}
-use Rattle.psa_nodes.specs.Progress.{IsCall, IsResult}
+use Rattle.psa_nodes.specs.Progress.{pair_level, IsCall, IsResult}
 use Rattle.psa_nodes.specs.Cofactors.{cofactor}
 use Rattle.psa_bdd.specs.declared.connective.Connective.{Connective}
 use Rattle.psa_bdd.specs.declared.connective.Connective.TheVariants.{And, Or}
@@ -52,10 +52,6 @@ key_of connective left right =
       right = left;
       limit = NO_LIMIT;
     }
-
--- where two operands stand: the least of their levels
-abbrev pub pair_level : List Node → ℕ → ℕ → ℕ
-pair_level ns left right = min (level ns left) (level ns right)
 
 -- A node reads as the connective of cofactors of both truths, by one assignment of the ranks below its
 -- variable.

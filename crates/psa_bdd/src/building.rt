@@ -5,11 +5,11 @@ ghost use Rattle.psa_nodes.specs.Readings.{stands, truth};
 ghost use Rattle.psa_nodes.specs.Nodes.{IsBounded, IsOnly};
 ghost use Rattle.psa_nodes.specs.Progress.{IsCall};
 ghost use Rattle.psa_graph.specs.Truths.{literal_truth, graph_truth, place_truth, IsGraph};
-ghost use Rattle.psa_bdd.specs.Building.{IsCofactorOf, IsCofactorOfPlace, IsDiagramOf, IsBuilt, AreNeeds, HoldsOfSidesAt};
+ghost use Rattle.psa_graph.specs.Needs.{AreNeeds, HoldsOfSidesAt};
+ghost use Rattle.psa_bdd.specs.Building.{IsCofactorOf, IsCofactorOfPlace, IsDiagramOf, IsBuilt};
 
 use crate::combine::{and, or};
-use crate::marking::needed_places;
-use psa_graph::{Graph, GraphNode};
+use psa_graph::{Graph, GraphNode, needed_places};
 use psa_nodes::{NodeError, NodeId, NodeTable, Steps};
 use sqlite_items::Items;
 use std::alloc::Global;

@@ -5,7 +5,6 @@
 mod building;
 mod combine;
 mod connective;
-mod marking;
 mod sides;
 
 pub use building::build;

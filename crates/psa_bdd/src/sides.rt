@@ -4,7 +4,8 @@ ghost use Rattle.psa_nodes.specs.declared.node.Node.{Node};
 ghost use Rattle.psa_nodes.specs.declared.node.TheConstants.{MAX_RANKS};
 ghost use Rattle.psa_nodes.specs.Readings.{node_at, stands, IsInner};
 ghost use Rattle.psa_nodes.specs.Nodes.{AllFit, IsBounded};
-ghost use Rattle.psa_bdd.specs.Combined.{IsSplit, pair_level};
+ghost use Rattle.psa_nodes.specs.Progress.{pair_level};
+ghost use Rattle.psa_bdd.specs.Combined.{IsSplit};
 
 use psa_nodes::{Node, NodeId, NodeTable, Steps};
 use std::sync::ledger::Ledger;

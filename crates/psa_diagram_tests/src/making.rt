@@ -3,11 +3,12 @@ ghost use Rattle.psa_nodes.specs.Readings.{stands};
 ghost use Rattle.psa_nodes.specs.Nodes.{IsBounded};
 
 use psa_bdd::{and, or};
+use psa_families::{minimal_sets, positive_part, union, without};
 use psa_nodes::{
     Kind, MAX_LITERAL_NUMBERS, MAX_RANKS, Node, NodeError, NodeId, NodeTable, Steps, TERMINALS,
 };
 use psa_prime::primes_of_bdd;
-use psa_zbdd::{minimal_of_bdd, minimal_sets, positive_part, product, union, without};
+use psa_zbdd::{minimal_of_bdd, product};
 use std::process::Abort;
 use std::sync::ledger::Ledger;
 

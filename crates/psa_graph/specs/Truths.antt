@@ -1,5 +1,5 @@
 -- The truths of the nodes of a graph, as functions of the ranks that occur. This project's own.
-use Rattle.std.specs.Prelude.{◌==◌, ◌<◌, ℕ, Bool, false, List, [], ◌∷◌, reverse, length, ◌&&◌, ◌||◌, not, if◌then◌else◌}
+use Rattle.std.specs.Prelude.{◌==◌, ◌<◌, ℕ, Bool, false, List, [], ◌∷◌, Option, Some, None, reverse, length, ◌&&◌, ◌||◌, not, if◌then◌else◌}
 use Rattle.psa_graph.specs.declared.graph.Graph.{Graph}
 use Rattle.psa_graph.specs.declared.graph.GraphNode.{GraphNode}
 use Rattle.psa_graph.specs.declared.graph.GraphNode.TheVariants.{Constant, Literal, And, Or}
@@ -20,6 +20,11 @@ abbrev pub truth_at : List GraphNode → ℕ → (ℕ → Bool) → Bool
 truth_at [] place s = false
 truth_at (node ∷ older) place s =
     if place == length older then node_truth (truth_at older) node s else truth_at older place s
+
+-- the item at a place of a list that is newest first
+abbrev pub older_at : {A : Type 0} → List A → ℕ → Option A
+older_at [] place = None
+older_at (x ∷ older) place = if place == length older then Some x else older_at older place
 
 -- the truth at a place of a graph, and that of the graph
 abbrev pub place_truth : Graph → ℕ → (ℕ → Bool) → Bool

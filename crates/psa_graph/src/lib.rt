@@ -2,5 +2,7 @@
 #![tactic(auto)]
 
 mod graph;
+mod marking;
 
 pub use graph::{Graph, GraphNode};
+pub use marking::needed_places;

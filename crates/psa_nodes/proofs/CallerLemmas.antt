@@ -13,3 +13,4 @@ pub use Rattle.psa_nodes.proofs.BoundedLemmas.{bounded-none, bounded-at, bounded
 pub use Rattle.psa_nodes.proofs.MemberLemmas.{AreAbove, above-stands, above-head, stands-above}
 pub use Rattle.psa_nodes.proofs.TailLemmas.{tail-own, own-tails, IsSideOf, tails-of-side, tails-in, side-call, exit-call, last-call}
 pub use Rattle.psa_nodes.proofs.SizeLemmas.{joined-member, has-one}
+pub use Rattle.psa_nodes.proofs.ResultLemmas.{is_result, remembered-result, result-kept}

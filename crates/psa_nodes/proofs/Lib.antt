@@ -14,4 +14,5 @@ pub mod CofactorLemmas
 pub mod MemberLemmas
 pub mod TailLemmas
 pub mod BoundedLemmas
+pub mod ResultLemmas
 pub mod CallerLemmas

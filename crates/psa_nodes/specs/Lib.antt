@@ -7,3 +7,4 @@ pub mod Table
 pub mod Cofactors
 pub mod Tails
 pub mod Progress
+pub mod Making

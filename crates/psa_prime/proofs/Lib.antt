@@ -1,10 +1,6 @@
 pub mod ImplicantLemmas
 pub mod DecompositionLemmas
 pub mod ConjunctionLemmas
-pub mod ResultLemmas
-pub mod SideLemmas
-pub mod DifferenceLemmas
-pub mod DifferenceSteps
 pub mod TerminalPrimeLemmas
 pub mod OriginLemmas
 pub mod SidePrimeSteps

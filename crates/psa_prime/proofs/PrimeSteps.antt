@@ -12,21 +12,21 @@ use Rattle.psa_nodes.specs.Readings.{Reading, node_at, truth, has, joined, stand
 use Rattle.psa_nodes.specs.Nodes.{AllFit, Grown}
 use Rattle.psa_nodes.specs.Table.{Table, IsTable, MakesNode, Lacks}
 use Rattle.psa_nodes.specs.Tails.{IsMember, AreTailsOf}
-use Rattle.psa_nodes.specs.Progress.{IsCall, IsResult, key_level}
+use Rattle.psa_nodes.specs.Progress.{pair_level, IsCall, IsResult, key_level}
 use Rattle.psa_nodes.proofs.CallerLemmas.{At, at, stands-at, stands-node, stands-below, stands-kept, stands-weaker, stands-terminal, level-node, level-stands, node_at-kept, truth-kept, truth-agree, has-kept, above-stands, stands-above, own-tails, grown-own, call-then, call-wide, call-node, progress-lacks}
 use Rattle.psa_bdd.specs.declared.connective.Connective.TheVariants as connectives
 use Rattle.psa_bdd.specs.Combined.{IsCombining}
 use Rattle.psa_bdd.specs.Combined as combined
 use Rattle.psa_bdd.proofs.LevelLemmas as bdd
 use Rattle.psa_bdd.proofs.SidesLemmas.{past-blind}
-use Rattle.psa_prime.specs.Differences.{IsReady}
+use Rattle.psa_nodes.specs.Making.{IsReady}
 use Rattle.psa_prime.specs.Primes.{IsPrimeOrigin, IsSidePrime, AreSidePrimes, prime_key}
 use Rattle.psa_prime.proofs.ImplicantLemmas.{Truth, DependsFrom, prime-above}
 use Rattle.psa_prime.proofs.DecompositionLemmas.{prime-sides}
 use Rattle.psa_prime.proofs.ConjunctionLemmas.{IsCofactorSide, high-cofactors, low-cofactors, both-cofactors}
-use Rattle.psa_prime.proofs.ResultLemmas.{result-kept}
-use Rattle.psa_prime.proofs.SideLemmas.{joined-same}
-use Rattle.psa_prime.proofs.DifferenceLemmas.{low-in, joined-above}
+use Rattle.psa_nodes.proofs.CallerLemmas.{result-kept}
+use Rattle.psa_families.proofs.SidesLemmas.{joined-same}
+use Rattle.psa_families.proofs.JoinedLemmas.{low-joined, joined-above}
 use Rattle.psa_prime.proofs.OriginLemmas.{origin-side, origin-both, origin-tails}
 use Rattle.psa_prime.proofs.SidePrimeSteps.{PrimeCalled, IsPrimes, past-primes}
 
@@ -106,10 +106,10 @@ module _ (old : Table) (root : NodeId) (limit : ℕ) (n : Node) (d : IsDecision 
     from_lo = truth-agree now.nodes fit (n.var + 1) n.lo.0 lo_stands
 
     and-step : {A : Type 0} (after : Table) (answer : Result A NodeError)
-        → IsCall (combined.IsCofactors connectives.And (truth now.nodes n.hi.0) (truth now.nodes n.lo.0)) (combined.pair_level now.nodes n.hi.0 n.lo.0) now after answer → Wide now after answer
+        → IsCall (combined.IsCofactors connectives.And (truth now.nodes n.hi.0) (truth now.nodes n.lo.0)) (pair_level now.nodes n.hi.0 n.lo.0) now after answer → Wide now after answer
     and-step after answer call =
         let past = bdd.pair-past now.nodes n.var n.hi.0 n.lo.0 d.bound hi_stands lo_stands in
-        let le : 2 * n.var + 1 ≤ combined.pair_level now.nodes n.hi.0 n.lo.0 = omega (arith, past) in
+        let le : 2 * n.var + 1 ≤ pair_level now.nodes n.hi.0 n.lo.0 = omega (arith, past) in
         call-wide le
         (λ k v r later o. origin-both n.var decision (truth now.nodes n.hi.0) (truth now.nodes n.lo.0) reads from_hi from_lo limit k v r (omega (arith, past, later)) o)
         answer call
@@ -193,14 +193,14 @@ module _ (old : Table) (root : NodeId) (limit : ℕ) (n : Node) (d : IsDecision 
         past_primes : (set : List ℕ) → joined (2 * n.var + 1) (has now.nodes opposite) (has now.nodes rest) set ≡ true → IsPrimeProduct decision limit set
         past_primes set m =
             (its_primes set).0
-            (low-in (2 * n.var) (has now.nodes event) (joined (2 * n.var + 1) (has now.nodes opposite) (has now.nodes rest))
+            (low-joined (2 * n.var) (has now.nodes event) (joined (2 * n.var + 1) (has now.nodes opposite) (has now.nodes rest))
             (joined-above (2 * n.var) (2 * n.var + 1) (omega arith) (has now.nodes opposite) (has now.nodes rest)
             (above-stands now.nodes fit (2 * n.var + 1) opposite opposite_past) (above-stands now.nodes fit (2 * n.var + 1) rest rest_past))
             set m)
 
   -- the conjunction of both sides
   pub both-exit : {A : Type 0} (one : Table) (answer : Result A NodeError)
-      → IsCall (combined.IsCofactors connectives.And (truth old.nodes n.hi.0) (truth old.nodes n.lo.0)) (combined.pair_level old.nodes n.hi.0 n.lo.0) old one answer → Whole old one answer
+      → IsCall (combined.IsCofactors connectives.And (truth old.nodes n.hi.0) (truth old.nodes n.lo.0)) (pair_level old.nodes n.hi.0 n.lo.0) old one answer → Whole old one answer
   both-exit one answer call = exit answer (and-step old (grown-own old.nodes) d.fit one answer call)
 
   module _ (one : Table) (both : NodeId) (first : IsCombining connectives.And n.hi n.lo old one (Ok both)) (of_both : IsResult And 0 one.nodes n.hi.0 n.lo.0 both.0) where

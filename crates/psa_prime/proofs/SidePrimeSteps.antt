@@ -14,12 +14,13 @@ use Rattle.psa_nodes.specs.Table.{Table}
 use Rattle.psa_nodes.specs.Tails.{IsMember, AreTailsOf}
 use Rattle.psa_nodes.specs.Progress.{IsCall, IsResult}
 use Rattle.psa_nodes.proofs.CallerLemmas.{stands-below, stands-kept, stands-terminal, stands-weaker, level-stands, truth-kept, truth-agree, has-zero, stands-above, call-then, call-wide}
-use Rattle.psa_prime.specs.Differences.{pair_level, AreApart}
+use Rattle.psa_nodes.specs.Progress.{pair_level}
+use Rattle.psa_families.specs.Operands.{AreApart}
 use Rattle.psa_prime.specs.Primes.{IsPrimeOrigin, AreSidePrimes}
 use Rattle.psa_prime.proofs.ImplicantLemmas.{Truth, prime-above}
 use Rattle.psa_prime.proofs.DecompositionLemmas.{apart, left-primes, primes-apart}
-use Rattle.psa_prime.proofs.ResultLemmas.{result-kept}
-use Rattle.psa_prime.proofs.SideLemmas.{pair-past}
+use Rattle.psa_nodes.proofs.CallerLemmas.{result-kept}
+use Rattle.psa_families.proofs.LevelLemmas.{pair-past}
 use Rattle.psa_prime.proofs.OriginLemmas.{origin-tails}
 
 -- what a call on a diagram does, with its answer

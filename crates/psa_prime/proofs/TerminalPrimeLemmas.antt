@@ -13,7 +13,7 @@ use Rattle.psa_nodes.specs.Readings.{truth, has, stands, is_empty}
 use Rattle.psa_nodes.specs.Nodes.{AllFit}
 use Rattle.psa_nodes.specs.Progress.{IsResult}
 use Rattle.psa_nodes.proofs.CallerLemmas.{stands-terminal, truth-terminal, has-zero, canonical}
-use Rattle.psa_prime.proofs.ResultLemmas.{is_result}
+use Rattle.psa_nodes.proofs.CallerLemmas.{is_result}
 
 has-terminal : (ns : List Node) (id : ℕ) (set : List ℕ) → id < 2 → has ns id set ≡ ((id == 1) && is_empty set)
 has-terminal [] id set lt = refl

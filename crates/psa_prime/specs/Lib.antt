@@ -1,2 +1,1 @@
 pub mod Primes
-pub mod Differences

@@ -2,9 +2,6 @@
 //! remembered results.
 #![tactic(auto)]
 
-mod differences;
-mod making;
 mod primes;
-mod sides;
 
 pub use primes::primes_of_bdd;

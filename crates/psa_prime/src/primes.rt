@@ -8,10 +8,9 @@ ghost use Rattle.psa_nodes.specs.Nodes.{IsBounded};
 ghost use Rattle.psa_nodes.specs.Progress.{IsCall, IsResult};
 ghost use Rattle.psa_prime.specs.Primes.{IsPrimeOrigin, prime_key, AreSidePrimes};
 
-use crate::differences::difference;
-use crate::making::finish;
 use psa_bdd::and;
-use psa_nodes::{MemoKey, NodeError, NodeId, NodeTable, Operation, Steps};
+use psa_families::difference;
+use psa_nodes::{MemoKey, NodeError, NodeId, NodeTable, Operation, Steps, remember_family};
 use std::sync::ledger::Ledger;
 
 /// What the prime implicants of a diagram within a limit are remembered by.
@@ -97,7 +96,7 @@ fn prime_sets<L: Ledger>(
     let event = side_primes(table, node.var, node.hi, both, rest, limit, steps)?;
     let opposite = side_primes(table, node.var, node.lo, both, rest, limit, steps)?;
     let past = table.zbdd_node(2 * node.var + 1, opposite, rest)?;
-    finish(table, key, 2 * node.var, event, past)
+    remember_family(table, key, 2 * node.var, event, past)
 }
 
 /// The prime implicants of at most `limit` literals of a decision diagram (Coudert and Madre), as a family of

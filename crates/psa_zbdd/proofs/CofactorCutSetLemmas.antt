@@ -4,7 +4,7 @@ use Rattle.std.proofs.lemmas.Bool.Decides.{leb_tells}
 use Rattle.psa_logic.specs.Products.{IsCutProduct}
 use Rattle.psa_nodes.specs.Cofactors.{assigned, cofactor, IsCutOfCofactor}
 use Rattle.psa_nodes.proofs.CallerLemmas.{assigned-past}
-use Rattle.psa_zbdd.proofs.PositiveProductLemmas.{DependsFrom, cuts-same, cuts-within}
+use Rattle.psa_families.proofs.PositiveProductLemmas.{DependsFrom, cuts-same, cuts-within}
 
 -- a minimal cut set of the truth itself is one of a cofactor that fixes no rank
 pub own-cut : (f : (ℕ → Bool) → Bool) (limit : ℕ) (whole : List ℕ) → IsCutProduct f limit whole → IsCutOfCofactor f limit whole

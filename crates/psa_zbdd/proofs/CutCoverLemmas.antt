@@ -6,7 +6,7 @@ use Rattle.psa_logic.proofs.PartLemmas.{part-trans, part-le, part-length, part-a
 use Rattle.psa_logic.proofs.MinimalPartLemmas.{minimal-part}
 use Rattle.psa_nodes.specs.Families.{IsPositivePart, IsMinimalMember}
 use Rattle.psa_zbdd.specs.GraphFamilies.{IsSignedImplicant, IsCover}
-use Rattle.psa_zbdd.proofs.PositiveProductLemmas.{part-positive, positive-part}
+use Rattle.psa_families.proofs.PositiveProductLemmas.{part-positive, positive-part}
 use Rattle.psa_zbdd.proofs.SignedProductLemmas.{events, events-product, events-ascending, events-length, events-cut, held-part}
 
 module _ (width limit : ℕ) (f : (ℕ → Bool) → Bool) (family positives : List ℕ → Bool) (c : IsCover width limit f family)

@@ -18,16 +18,17 @@ use Rattle.psa_nodes.specs.Table.{Table, Lacks}
 use Rattle.psa_nodes.specs.Progress.{IsCall, IsResult, key_level}
 use Rattle.psa_nodes.proofs.CallerLemmas.{At, at, stands-below, stands-kept, stands-weaker, stands-terminal, stands-at, stands-node, level-node, level-stands, node_at-kept, truth-kept, truth-agree, blind-stands, fixed, high-cofactor, low-cofactor, has-zero, grown-own, call-then, call-wide, tails-in, progress-lacks}
 use Rattle.psa_nodes.specs.Tails.{IsMember, AreTailsOf}
-use Rattle.psa_zbdd.specs.Sides.{pair_level, IsReady}
+use Rattle.psa_nodes.specs.Progress.{pair_level}
+use Rattle.psa_nodes.specs.Making.{IsReady}
 use Rattle.psa_zbdd.specs.CutSets.{cut_key}
 use Rattle.psa_nodes.proofs.CallerLemmas.{stands-above}
-use Rattle.psa_zbdd.proofs.LevelLemmas.{pair-past}
-use Rattle.psa_zbdd.proofs.ResultLemmas.{result-kept}
-use Rattle.psa_zbdd.proofs.PositiveProductLemmas.{DependsFrom, cuts-above, cuts-within}
-use Rattle.psa_zbdd.proofs.TerminalCutSetLemmas.{has-terminal}
+use Rattle.psa_families.proofs.LevelLemmas.{pair-past}
+use Rattle.psa_nodes.proofs.CallerLemmas.{result-kept}
+use Rattle.psa_families.proofs.PositiveProductLemmas.{DependsFrom, cuts-above, cuts-within}
+use Rattle.psa_families.proofs.TerminalLemmas.{has-terminal}
 use Rattle.psa_zbdd.proofs.DecompositionLemmas.{cut-sides}
 use Rattle.psa_zbdd.proofs.CofactorCutSetLemmas.{own-cut, side-cut}
-use Rattle.psa_zbdd.proofs.SubsetRemovalLemmas.{past-without}
+use Rattle.psa_families.proofs.SubsetRemovalLemmas.{past-without}
 
 -- what a call does, with its answer
 abbrev pub CutCalled : {A : Type 0} → ℕ → ℕ → Table → Table → Result A NodeError → Type 0

@@ -8,7 +8,7 @@ use Rattle.psa_logic.proofs.PartLemmas.{eqb-same, part-nil, part-skip, part-cons
 use Rattle.psa_logic.proofs.MinimalPartLemmas.{minimal-part}
 use Rattle.psa_nodes.specs.Readings.{joined}
 use Rattle.psa_nodes.specs.Families.{Spares}
-use Rattle.psa_zbdd.proofs.PositiveProductLemmas.{part-positive, positive-part, above-positive, DependsFrom, head-same, minimal-head, minimal-above}
+use Rattle.psa_families.proofs.PositiveProductLemmas.{part-positive, positive-part, above-positive, DependsFrom, head-same, minimal-head, minimal-above}
 
 module _ (x : ℕ) (f f1 f0 : (ℕ → Bool) → Bool) (is : (s : ℕ → Bool) → f s ≡ (if s x then f1 s else f0 s)) (from : DependsFrom x f) (from1 : DependsFrom (x + 1) f1) (from0 : DependsFrom (x + 1) f0) where
   -- the truth at a set above x, and at one that begins with x

@@ -1,6 +1,8 @@
 -- The families of the places of a graph: how each is made of those of the places that its node names.
-use Rattle.std.proofs.Common.{◌≡◌, ◌↔◌, ℕ, suc, zero, ◌+◌, ◌<◌, ◌&&◌, ◌||◌, Bool, true, List, [], ◌∷◌, ◌++◌, length, length-append, get_or, Result, Ok, Err, IfOk, refl, sym, ap, ap₂, subst, ◌∙◌, inl, inr, arith}
+use Rattle.std.proofs.Common.{◌≡◌, ◌↔◌, ℕ, ◌+◌, ◌<◌, ◌&&◌, ◌||◌, Bool, true, List, [], ◌∷◌, ◌++◌, length, length-append, get_or, Result, Ok, Err, IfOk, refl, sym, ap, ap₂, subst, ◌∙◌, inl, inr, arith}
 use Rattle.std.proofs.lemmas.Bool.Decides.{eqb_tells}
+use Rattle.std.proofs.lemmas.List.{get_or_append_left}
+use Rattle.std.proofs.Math.Seq.{get_or-append_seam}
 use Rattle.psa_graph.specs.declared.graph.Graph.{Graph}
 use Rattle.psa_graph.specs.declared.graph.GraphNode.{GraphNode}
 use Rattle.psa_graph.specs.declared.graph.GraphNode.TheVariants as nodes
@@ -18,12 +20,12 @@ use Rattle.psa_nodes.specs.Table.{Table}
 use Rattle.psa_nodes.specs.Progress.{IsCall, IsResult}
 use Rattle.psa_nodes.specs.Tails.{either, IsMember, AreTailsOf}
 use Rattle.psa_nodes.proofs.CallerLemmas.{stands-below, stands-kept, has-kept, tails-in, call-wide, call-then}
-use Rattle.psa_bdd.specs.Building.{HoldsOfSides, HoldsOfSidesAt, IsNeeded, AreNeeds}
-use Rattle.psa_bdd.proofs.PlaceTruthLemmas.{node-behind}
+use Rattle.psa_graph.specs.Needs.{HoldsOfSides, HoldsOfSidesAt, IsNeeded, AreNeeds}
+use Rattle.psa_graph.proofs.PlaceTruthLemmas.{node-behind}
 use Rattle.psa_zbdd.specs.FamilyProducts.{IsProductSource}
 use Rattle.psa_zbdd.specs.GraphFamilies.{IsSignedImplicant, IsGraphProduct, IsCover, IsCoverAt, IsCovered, IsReducedAt}
-use Rattle.psa_zbdd.proofs.MinimalMemberLemmas.{least-member}
-use Rattle.psa_zbdd.proofs.MinimalSetsSteps.{MinimalCalled}
+use Rattle.psa_families.proofs.MinimalMemberLemmas.{least-member}
+use Rattle.psa_families.proofs.MinimalSetsSteps.{MinimalCalled}
 use Rattle.psa_zbdd.proofs.ProductSideSteps.{member-as}
 use Rattle.psa_zbdd.proofs.CoverLemmas.{cover-same, both-sound, cover-both, either-sound, cover-either}
 
@@ -150,16 +152,6 @@ AreCovered graph limit needed ns families =
 pub covered-none : (graph : Graph) (limit : ℕ) (needed : List Bool) (ns : List Node) (families : List NodeId) → families ≡ [] → AreCovered graph limit needed ns families
 covered-none graph limit needed ns families e place inside need = absurd (omega (arith, inside, ap (length {A = NodeId}) e))
 
--- an item more at the end
-pushed-older : (xs : List NodeId) (x : NodeId) (i : ℕ) → i < length xs → get_or (xs ++ (x ∷ [])) i EMPTY ≡ get_or xs i EMPTY
-pushed-older [] x i l = absurd (omega arith)
-pushed-older (y ∷ ys) x zero l = refl
-pushed-older (y ∷ ys) x (suc i) l = pushed-older ys x i (omega arith)
-
-pushed-newest : (xs : List NodeId) (x : NodeId) → get_or (xs ++ (x ∷ [])) (length xs) EMPTY ≡ x
-pushed-newest [] x = refl
-pushed-newest (y ∷ ys) x = pushed-newest ys x
-
 -- those that a needed node names are among them
 pub sides-covered : (graph : Graph) (limit : ℕ) (needed : List Bool) (ns : List Node) (families : List NodeId) → IsGraph graph → AreNeeds graph needed → AreCovered graph limit needed ns families → IsNeeded needed (length families) → HoldsOfSidesAt (IsCovered graph limit ns families) graph (length families)
 sides-covered graph limit needed ns families ok needs are need node e =
@@ -180,11 +172,11 @@ covered-more graph limit needed before now families after id g are last e =
     more : AreCovered graph limit needed now (families ++ (id ∷ []))
     more place inside need = elim (eqb_tells place (length families)) [
       | inl p ↦
-          subst (λ (x : NodeId). IsCoverAt graph.width limit (place_truth graph place) now x.0) (sym (ap (λ i. get_or (families ++ (id ∷ [])) i EMPTY) p.1 ∙ pushed-newest families id))
+          subst (λ (x : NodeId). IsCoverAt graph.width limit (place_truth graph place) now x.0) (sym (ap (λ i. get_or (families ++ (id ∷ [])) i EMPTY) p.1 ∙ get_or-append_seam families id [] EMPTY))
           (subst (λ i. IsCoverAt graph.width limit (place_truth graph i) now id.0) (sym p.1) (last (subst (IsNeeded needed) p.1 need)))
       | inr p ↦
           let long : length (families ++ (id ∷ [])) ≡ length families + 1 = length-append families (id ∷ []) in
           let l : place < length families = omega (arith, p.1) in
-          subst (λ (x : NodeId). IsCoverAt graph.width limit (place_truth graph place) now x.0) (sym (pushed-older families id place l))
+          subst (λ (x : NodeId). IsCoverAt graph.width limit (place_truth graph place) now x.0) (sym (get_or_append_left families (id ∷ []) EMPTY place l))
           (cover-kept graph.width limit (place_truth graph place) g (get_or families place EMPTY).0 (are place l need))
     ]

@@ -13,11 +13,11 @@ use Rattle.psa_nodes.specs.Progress.{IsCall, IsResult}
 use Rattle.psa_nodes.specs.Tails.{IsMember, AreTailsOf}
 use Rattle.psa_nodes.proofs.CallerLemmas.{stands-below, has-kept, call-then}
 use Rattle.psa_zbdd.specs.GraphFamilies.{IsSignedImplicant, IsGraphProduct, IsCoverAt, IsFamilyOfCutSets}
-use Rattle.psa_zbdd.proofs.MinimalSetsSteps.{MinimalCalled}
-use Rattle.psa_zbdd.proofs.PositivePartSteps.{PositiveCalled}
+use Rattle.psa_families.proofs.MinimalSetsSteps.{MinimalCalled}
+use Rattle.psa_families.proofs.PositivePartSteps.{PositiveCalled}
 use Rattle.psa_zbdd.proofs.SignedProductLemmas.{positive-signed, positive-cuts}
 use Rattle.psa_zbdd.proofs.CutCoverLemmas.{least-cuts}
-use Rattle.psa_zbdd.proofs.ResultLemmas.{result-kept}
+use Rattle.psa_nodes.proofs.CallerLemmas.{result-kept}
 use Rattle.psa_zbdd.proofs.GraphFamilySteps.{wider-source, cover-kept}
 
 module _ (graph : Graph) (ok : IsGraph graph) (limit : ℕ) (old one : Table) (family : NodeId) (first : IsCall (AreTailsOf (IsGraphProduct graph limit)) 0 old one (Ok family))

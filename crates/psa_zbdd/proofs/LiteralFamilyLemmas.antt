@@ -17,8 +17,8 @@ use Rattle.psa_nodes.specs.Progress.{IsCall}
 use Rattle.psa_nodes.specs.Tails.{AreTailsOf}
 use Rattle.psa_nodes.proofs.CallerLemmas.{stands-weaker, stands-terminal, has-zero, joined-own, call-node, tail-own}
 use Rattle.psa_zbdd.specs.GraphFamilies.{IsSignedImplicant, IsCoverAt}
-use Rattle.psa_zbdd.proofs.TerminalCutSetLemmas.{has-terminal}
-use Rattle.psa_zbdd.proofs.TerminalProductLemmas.{terminal-empty}
+use Rattle.psa_families.proofs.TerminalLemmas.{has-terminal}
+use Rattle.psa_families.proofs.TerminalLemmas.{terminal-empty}
 use Rattle.psa_zbdd.proofs.CoverLemmas.{cover-none, cover-all, cover-literal, literal-sound}
 
 -- a terminal covers a constant

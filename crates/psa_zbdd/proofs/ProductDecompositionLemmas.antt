@@ -10,7 +10,7 @@ use Rattle.psa_nodes.specs.Families.{IsUnionOf, IsProductMember}
 use Rattle.psa_nodes.specs.Tails.{either}
 use Rattle.psa_zbdd.specs.FamilyProducts.{AreClear, weight}
 use Rattle.psa_nodes.proofs.CallerLemmas.{AreAbove, above-head}
-use Rattle.psa_zbdd.proofs.JoinedLemmas.{with_or_not, Member, member-of, low-joined, high-joined}
+use Rattle.psa_families.proofs.JoinedLemmas.{with_or_not, Member, member-of, low-joined, high-joined}
 use Rattle.psa_zbdd.proofs.SetUnionLemmas.{or-left, or-right, above-occurs, union-above, above-left, above-right, union-with, union-without, union-head, consistent-with, consistent-parts, count-with}
 
 none-of : (a b : Bool) → (a || b) ≡ false → (a ≡ false) × (b ≡ false)

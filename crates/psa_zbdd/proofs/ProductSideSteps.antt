@@ -14,16 +14,16 @@ use Rattle.psa_nodes.specs.Nodes.{AllFit, Grown}
 use Rattle.psa_nodes.specs.Table.{Table}
 use Rattle.psa_nodes.specs.Progress.{IsCall, IsResult}
 use Rattle.psa_nodes.proofs.CallerLemmas.{stands-below, stands-kept, stands-weaker, stands-terminal, has-zero, has-kept, grown-own, grown-then, call-then}
-use Rattle.psa_zbdd.specs.declared.sides.Sides.{Sides}
+use Rattle.psa_families.specs.declared.sides.Sides.{Sides}
 use Rattle.psa_nodes.specs.Tails.{either, IsMember, AreTailsOf}
-use Rattle.psa_zbdd.specs.Sides.{pair_level}
+use Rattle.psa_nodes.specs.Progress.{pair_level}
 use Rattle.psa_zbdd.specs.FamilyProducts.{IsProductSource, SidesStand, AreClearSides, IsHighSide, left_family, right_family, weight}
 use Rattle.psa_nodes.proofs.CallerLemmas.{AreAbove, above-stands, stands-above}
-use Rattle.psa_zbdd.proofs.LevelLemmas.{pair-past}
-use Rattle.psa_zbdd.proofs.ResultLemmas.{result-kept}
-use Rattle.psa_zbdd.proofs.UnionSteps.{past-union}
+use Rattle.psa_families.proofs.LevelLemmas.{pair-past}
+use Rattle.psa_nodes.proofs.CallerLemmas.{result-kept}
+use Rattle.psa_families.proofs.UnionSteps.{past-union}
 use Rattle.psa_zbdd.proofs.SetUnionLemmas.{union-above, or-left, or-right}
-use Rattle.psa_zbdd.proofs.JoinedLemmas.{low-joined, high-joined}
+use Rattle.psa_families.proofs.JoinedLemmas.{low-joined, high-joined}
 use Rattle.psa_zbdd.proofs.ProductDecompositionLemmas.{high-product, product-high, no-high}
 use Rattle.psa_nodes.proofs.CallerLemmas.{IsSideOf, side-call}
 

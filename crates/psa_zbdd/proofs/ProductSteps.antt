@@ -11,16 +11,18 @@ use Rattle.psa_nodes.specs.Nodes.{AllFit, Grown}
 use Rattle.psa_nodes.specs.Table.{Table, Lacks}
 use Rattle.psa_nodes.specs.Progress.{IsCall, IsResult, key_level}
 use Rattle.psa_nodes.proofs.CallerLemmas.{stands-below, stands-kept, stands-weaker, has-kept, grown-own, grown-then, call-then, progress-lacks}
-use Rattle.psa_zbdd.specs.declared.sides.Sides.{Sides}
+use Rattle.psa_families.specs.declared.sides.Sides.{Sides}
 use Rattle.psa_nodes.specs.Tails.{IsMember, AreTailsOf}
-use Rattle.psa_zbdd.specs.Sides.{pair_level, AreSides, IsReady}
+use Rattle.psa_nodes.specs.Progress.{pair_level}
+use Rattle.psa_families.specs.Sides.{AreSides}
+use Rattle.psa_nodes.specs.Making.{IsReady}
 use Rattle.psa_zbdd.specs.FamilyProducts.{IsProductSource, SidesStand, IsHighSide, left_family, right_family}
 use Rattle.psa_nodes.proofs.CallerLemmas.{AreAbove, above-stands}
-use Rattle.psa_zbdd.proofs.SidesLemmas.{sides-kept, low-member}
-use Rattle.psa_zbdd.proofs.LevelLemmas.{pair-past}
+use Rattle.psa_families.proofs.SidesLemmas.{sides-kept, low-member}
+use Rattle.psa_families.proofs.LevelLemmas.{pair-past}
 use Rattle.psa_zbdd.proofs.ProductDecompositionLemmas.{low-product, product-sides}
 use Rattle.psa_zbdd.proofs.ProductSideSteps.{ProductCalled, member-as, past-product}
-use Rattle.psa_zbdd.proofs.ResultLemmas.{result-kept}
+use Rattle.psa_nodes.proofs.CallerLemmas.{result-kept}
 use Rattle.psa_nodes.proofs.CallerLemmas.{IsSideOf, side-call, exit-call, last-call}
 
 abbrev pub product_key : NodeId → NodeId → ℕ → MemoKey

@@ -7,7 +7,7 @@ use Rattle.psa_logic.specs.Products.{rank_of, is_positive, is_consistent}
 use Rattle.psa_logic.proofs.PartLemmas.{eqb-same, all_above-has, all_above-occurs, occurs-has}
 use Rattle.psa_nodes.specs.Families.{IsUnionOf}
 use Rattle.psa_zbdd.specs.FamilyProducts.{weight}
-use Rattle.psa_zbdd.proofs.JoinedLemmas.{with_or_not}
+use Rattle.psa_families.proofs.JoinedLemmas.{with_or_not}
 
 with-occurs : (x : ℕ) (b : Bool) (l : List ℕ) (y : ℕ) → occurs (with_or_not x b l) y ≡ ((b && (x == y)) || occurs l y)
 with-occurs x true l y = refl

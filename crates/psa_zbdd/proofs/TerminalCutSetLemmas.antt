@@ -1,5 +1,5 @@
 -- The minimal cut sets of the terminals: none where the truth is false, the empty set where it is true.
-use Rattle.std.proofs.Common.{◌≡◌, ℕ, ◌+◌, ◌<◌, true, false, ◌==◌, ◌&&◌, List, [], ◌∷◌, length, refl, sym, ap, subst, ◌∙◌, arith, ne_eqb}
+use Rattle.std.proofs.Common.{◌≡◌, ℕ, ◌<◌, true, false, ◌==◌, List, [], ◌∷◌, refl, sym, ap, subst, ◌∙◌, arith}
 use Rattle.std.proofs.lemmas.Bool.{false≢true, and_parts, and_from}
 use Rattle.psa_logic.specs.Sets.{is_part, occurs}
 use Rattle.psa_logic.specs.Products.{positive_product, IsCutProduct}
@@ -7,17 +7,14 @@ use Rattle.psa_logic.proofs.PartLemmas.{part-nil}
 use Rattle.psa_nodes.specs.declared.node.Kind.TheVariants.{Zbdd}
 use Rattle.psa_nodes.specs.declared.node.Node.{Node}
 use Rattle.psa_nodes.specs.declared.node.Operation.TheVariants.{MinimalOfBdd}
-use Rattle.psa_nodes.specs.Readings.{truth, has, is_empty}
+use Rattle.psa_nodes.specs.Readings.{truth, has}
 use Rattle.psa_nodes.specs.Nodes.{AllFit}
 use Rattle.psa_nodes.specs.Progress.{IsResult}
 use Rattle.psa_nodes.proofs.CallerLemmas.{stands-terminal, truth-terminal}
-use Rattle.psa_zbdd.proofs.ResultLemmas.{is_result}
+use Rattle.psa_nodes.proofs.CallerLemmas.{is_result}
+use Rattle.psa_families.proofs.TerminalLemmas.{has-terminal}
 
--- a terminal is the empty family or that of the empty set
-pub has-terminal : (ns : List Node) (id : ℕ) (set : List ℕ) → id < 2 → has ns id set ≡ ((id == 1) && is_empty set)
-has-terminal [] id set lt = refl
-has-terminal (n ∷ older) id set lt = rw (ne_eqb id (length older + 2) (λ e. omega arith)) (has-terminal older id set lt)
-
+-- the cut sets of a terminal
 module _ (ns : List Node) (root limit : ℕ) (lt : root < 2) where
   to-cut : (set : List ℕ) → has ns root set ≡ true → IsCutProduct (truth ns root) limit set
   to-cut [] m = record {

@@ -1,6 +1,6 @@
 -- The product with the empty family, and of the family of the empty set with itself; what goes with a variable.
 use Rattle.std.proofs.Common.{◌≡◌, ℕ, ◌+◌, ◌%◌, ◌<◌, ◌==◌, ◌||◌, true, false, List, [], ◌∷◌, Some, refl, sym, ap, subst, ◌∙◌, inl, inr, arith, ne_eqb}
-use Rattle.std.proofs.lemmas.Bool.{false≢true, and_parts}
+use Rattle.std.proofs.lemmas.Bool.{false≢true}
 use Rattle.std.proofs.lemmas.Bool.Decides.{eqb_tells}
 use Rattle.psa_logic.specs.Sets.{all_above, occurs}
 use Rattle.psa_logic.specs.Products.{is_positive}
@@ -13,12 +13,12 @@ use Rattle.psa_nodes.specs.Readings.{node_at, has, stands}
 use Rattle.psa_nodes.specs.Nodes.{AllFit}
 use Rattle.psa_nodes.specs.Progress.{IsResult}
 use Rattle.psa_nodes.proofs.CallerLemmas.{has-zero, stands-terminal, stands-weaker, stands-at}
-use Rattle.psa_zbdd.specs.Sides.{IsSplit}
+use Rattle.psa_families.specs.Sides.{IsSplit}
 use Rattle.psa_zbdd.specs.FamilyProducts.{IsClear}
 use Rattle.psa_nodes.proofs.CallerLemmas.{above-stands}
-use Rattle.psa_zbdd.proofs.SidesLemmas.{split-own, low-member}
-use Rattle.psa_zbdd.proofs.ResultLemmas.{is_result}
-use Rattle.psa_zbdd.proofs.TerminalCutSetLemmas.{has-terminal}
+use Rattle.psa_families.proofs.SidesLemmas.{split-own, low-member}
+use Rattle.psa_nodes.proofs.CallerLemmas.{is_result}
+use Rattle.psa_families.proofs.TerminalLemmas.{has-terminal, terminal-empty}
 
 module _ (ns : List Node) (fit : AllFit ns) (left right limit : ℕ) where
   pub product-nothing-left : left ≡ 0 → IsResult Product limit ns left right 0
@@ -37,11 +37,7 @@ module _ (ns : List Node) (fit : AllFit ns) (left right limit : ℕ) where
       none : (set : List ℕ) → has ns right set ≡ false
       none set = ap (λ (x : ℕ). has ns x set) e ∙ has-zero ns set
 
--- a terminal has the empty set alone, if any
-pub terminal-empty : (ns : List Node) (id : ℕ) → id < 2 → (set : List ℕ) → has ns id set ≡ true → set ≡ []
-terminal-empty ns id lt [] m = refl
-terminal-empty ns id lt (y ∷ ys) m = absurd (false≢true ((and_parts (id == 1) false (sym (has-terminal ns id (y ∷ ys) lt) ∙ m)).1))
-
+-- the family of the empty set has no other
 only-empty : (ns : List Node) (set : List ℕ) → has ns 1 set ≡ true → set ≡ []
 only-empty ns set m = terminal-empty ns 1 (omega arith) set m
 

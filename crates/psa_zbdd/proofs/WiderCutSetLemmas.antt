@@ -15,10 +15,10 @@ use Rattle.psa_nodes.proofs.CallerLemmas.{bounded-at, tails-in, stands-below, st
 use Rattle.psa_nodes.specs.Tails.{IsMember, AreTailsOf}
 use Rattle.psa_zbdd.specs.CutSets.{AreWiderCuts}
 use Rattle.psa_nodes.proofs.CallerLemmas.{stands-above}
-use Rattle.psa_zbdd.proofs.ResultLemmas.{result-kept}
-use Rattle.psa_zbdd.proofs.PositiveProductLemmas.{cuts-past, cuts-within}
+use Rattle.psa_nodes.proofs.CallerLemmas.{result-kept}
+use Rattle.psa_families.proofs.PositiveProductLemmas.{cuts-past, cuts-within}
 use Rattle.psa_zbdd.proofs.CofactorCutSetLemmas.{own-cut}
-use Rattle.psa_zbdd.proofs.ShortMemberLemmas.{short-cuts}
+use Rattle.psa_families.proofs.ShortMemberLemmas.{short-cuts}
 use Rattle.psa_zbdd.proofs.CutSetSteps.{CutCalled, IsCuts}
 
 -- the products of a truth that depends on the ranks from v on stand at 2 * v

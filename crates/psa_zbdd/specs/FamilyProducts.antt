@@ -10,7 +10,7 @@ use Rattle.psa_nodes.specs.Families.{IsProductMember}
 use Rattle.psa_nodes.specs.Nodes.{AllFit}
 use Rattle.psa_nodes.specs.Progress.{IsResult}
 use Rattle.psa_nodes.specs.Readings.{has, joined, stands}
-use Rattle.psa_zbdd.specs.declared.sides.Sides.{Sides}
+use Rattle.psa_families.specs.declared.sides.Sides.{Sides}
 
 -- a member of one of two families, or of their product within a limit
 abbrev pub IsProductSource : (List ℕ → Bool) → (List ℕ → Bool) → ℕ → List ℕ → Type 0

@@ -1,4 +1,3 @@
-pub mod Sides
 pub mod CutSets
 pub mod FamilyProducts
 pub mod GraphFamilies

@@ -7,12 +7,11 @@ ghost use Rattle.psa_nodes.specs.Nodes.{IsBounded};
 ghost use Rattle.psa_nodes.specs.Progress.{IsCall, IsResult};
 ghost use Rattle.psa_nodes.specs.Tails.{AreTailsOf};
 ghost use Rattle.psa_zbdd.specs.FamilyProducts.{IsProductSource, IsTrivialProduct, SidesStand, IsHighSide, left_family, right_family, weight};
-ghost use Rattle.psa_zbdd.specs.Sides.{pair_level};
+ghost use Rattle.psa_nodes.specs.Progress.{pair_level};
 
-use crate::making::finish;
-use crate::sides::{Sides, cleared, split};
-use crate::unions::union;
-use psa_nodes::{MemoKey, NodeError, NodeId, NodeTable, Operation, Steps};
+use crate::clearing::cleared;
+use psa_families::{Sides, split, union};
+use psa_nodes::{MemoKey, NodeError, NodeId, NodeTable, Operation, Steps, remember_family};
 use std::sync::ledger::Ledger;
 
 /// The product where a family is empty, or both are the family of the empty set, whatever the table and the
@@ -91,7 +90,7 @@ pub fn product<L: Ledger>(
     let sides = split(table, left, right, steps);
     let lo = product(table, sides.left_lo, sides.right_lo, limit, steps)?;
     let hi = with_variable(table, sides, limit, steps)?;
-    finish(table, key, sides.var, hi, lo)
+    remember_family(table, key, sides.var, hi, lo)
 }
 
 /// The side with the variable of the product of two families: the unions of a left member with it and any right

@@ -5,7 +5,8 @@ use Rattle.psa_nodes.specs.declared.node.NodeId.{NodeId}
 use Rattle.psa_nodes.specs.declared.node.NodeError.TheVariants.{Memory}
 use Rattle.psa_nodes.specs.declared.node.TheConstants.NodeId.{FALSE}
 use Rattle.psa_nodes.proofs.CallerLemmas.{progress-own, call-same, call-done, call-memory, call-then}
-use Rattle.psa_bdd.specs.Building.{IsDiagramOf, IsBuilt, IsNeeded, HoldsOfSidesAt}
+use Rattle.psa_graph.specs.Needs.{IsNeeded, HoldsOfSidesAt}
+use Rattle.psa_bdd.specs.Building.{IsDiagramOf, IsBuilt}
 use Rattle.psa_bdd.proofs.BuildLemmas.{built-none, sides-built, built-more}
 use Rattle.psa_bdd.proofs.building.build_needed.Goals as goal
 

@@ -3,7 +3,7 @@ use Rattle.psa_graph.specs.declared.graph.GraphNode.TheVariants as nodes
 use Rattle.psa_graph.specs.Truths.{literal_truth, place_truth}
 use Rattle.psa_nodes.specs.declared.node.TheConstants.NodeId.{FALSE}
 use Rattle.psa_bdd.specs.declared.connective.Connective.TheVariants as connectives
-use Rattle.psa_bdd.proofs.PlaceTruthLemmas.{node-here, node-behind, place-reads}
+use Rattle.psa_graph.proofs.PlaceTruthLemmas.{node-here, node-behind, place-reads}
 use Rattle.psa_bdd.proofs.BuildLemmas.{terminal-diagram, diagram-same, place-call, combined-diagram, combined-call}
 use Rattle.psa_bdd.proofs.building.build_place.Goals as goal
 

@@ -2,7 +2,7 @@ use Rattle.std.proofs.Common.{◌+◌, Err, arith}
 use Rattle.std.proofs.lemmas.Result.{err_from_is_err_and}
 use Rattle.psa_nodes.specs.declared.node.Kind.TheVariants.{Bdd}
 use Rattle.psa_nodes.proofs.CallerLemmas.{stands-weaker}
-use Rattle.psa_bdd.specs.Combined.{pair_level}
+use Rattle.psa_nodes.specs.Progress.{pair_level}
 use Rattle.psa_bdd.proofs.KeyLemmas.{result-key}
 use Rattle.psa_bdd.proofs.LevelLemmas.{falls}
 use Rattle.psa_bdd.proofs.CombineSteps.{past_hi, past_lo, left_lo_stands, right_lo_stands, high-exit, low-exit, ready, absent, whole-call}

@@ -1,4 +1,4 @@
-use Rattle.std.proofs.Common.{◌≡◌, ◌<◌, Bool, true, false, not, reverse, List, [], ◌∷◌, ◌++◌, IsSome, sym, ap, subst, ◌∙◌, inl, inr, arith, true≢false, refl}
+use Rattle.std.proofs.Common.{◌≡◌, Bool, true, false, not, reverse, List, [], ◌∷◌, ◌++◌, IsSome, sym, ap, subst, ◌∙◌, arith, true≢false, refl}
 use Rattle.psa_nodes.specs.declared.node.Node.{Node}
 use Rattle.psa_nodes.specs.Sizes.{AreSized}
 use Rattle.psa_nodes.proofs.PlaceLemmas.{found_at, inserted, inserted-same, inserted-new, popped-same, reverse-push, new-absent}

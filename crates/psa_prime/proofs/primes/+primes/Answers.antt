@@ -7,7 +7,7 @@ use Rattle.psa_nodes.specs.Readings.{level}
 use Rattle.psa_nodes.specs.Progress.{IsResult}
 use Rattle.psa_nodes.proofs.CallerLemmas.{bounded-at, grown-own, inner-from, some-inner}
 use Rattle.psa_prime.specs.Primes.{AreSidePrimes, prime_key}
-use Rattle.psa_prime.proofs.ResultLemmas.{remembered-result}
+use Rattle.psa_nodes.proofs.CallerLemmas.{remembered-result}
 use Rattle.psa_prime.proofs.TerminalPrimeLemmas.{terminal-primes, no-primes}
 use Rattle.psa_prime.proofs.SidePrimeSteps.{side_zero, past_side, none-left, first-step, operands_apart, rest_apart, rest_stands, whole-side-call, left}
 use Rattle.psa_prime.proofs.PrimeSteps.{IsDecision, old_level, hi_zero, lo_zero, both-exit, one_stands, one_past, rest-exit, event_sides, event-exit, three_rest, opposite_sides, opposite-exit, past_sides, past-exit, ready, absent, whole-call}
@@ -224,8 +224,8 @@ prime_sets-returns-in_err-past-clause-call g t c =
     c.side_primes-2.new.table c.in_ok-opposite.opposite c.in_ok-opposite.ensures.call c.in_ok-opposite.ensures.primes
     c.zbdd_node.new.self (Err c.in_err-past.field-0.0) c.in_err-past.ensures.table c.in_err-past.ensures.made)
 
-pub prime_sets-finish-requires-clause-ready : goal.prime_sets-finish-requires-clause-ready
-prime_sets-finish-requires-clause-ready g t c =
+pub prime_sets-remember_family-requires-clause-ready : goal.prime_sets-remember_family-requires-clause-ready
+prime_sets-remember_family-requires-clause-ready g t c =
     let a = c.args in
     let n = c.node-node.result in
     let d : IsDecision a.table.now a.root a.limit n = record { fit = c.check.ensures.fit; some = omega (arith, c.if-limit-eq0.false); root_stands = c.requires.root; there = c.node-node.ensures.node; bound = bounded-at Bdd a.table.now.nodes c.requires.bounded a.root.0 n c.requires.root c.node-node.ensures.node } in
@@ -236,8 +236,8 @@ prime_sets-finish-requires-clause-ready g t c =
     c.side_primes-2.new.table c.in_ok-opposite.opposite c.in_ok-opposite.ensures.call c.in_ok-opposite.ensures.primes
     c.zbdd_node.new.self c.in_ok-past.past c.in_ok-past.ensures.table c.in_ok-past.ensures.made)
 
-pub prime_sets-finish-requires-clause-absent : goal.prime_sets-finish-requires-clause-absent
-prime_sets-finish-requires-clause-absent g t c =
+pub prime_sets-remember_family-requires-clause-absent : goal.prime_sets-remember_family-requires-clause-absent
+prime_sets-remember_family-requires-clause-absent g t c =
     let a = c.args in
     let n = c.node-node.result in
     let d : IsDecision a.table.now a.root a.limit n = record { fit = c.check.ensures.fit; some = omega (arith, c.if-limit-eq0.false); root_stands = c.requires.root; there = c.node-node.ensures.node; bound = bounded-at Bdd a.table.now.nodes c.requires.bounded a.root.0 n c.requires.root c.node-node.ensures.node } in
@@ -260,7 +260,7 @@ prime_sets-returns-clause-call g t c =
     c.side_primes.new.table c.in_ok-event.event c.in_ok-event.ensures.call c.in_ok-event.ensures.primes
     c.side_primes-2.new.table c.in_ok-opposite.opposite c.in_ok-opposite.ensures.call c.in_ok-opposite.ensures.primes
     c.zbdd_node.new.self c.in_ok-past.past c.in_ok-past.ensures.table c.in_ok-past.ensures.made
-    c.finish.new.table c.finish.result c.finish.ensures.call
+    c.remember_family.new.table c.remember_family.result c.remember_family.ensures.call
 
 pub side_primes-returns-then-eq-clause-primes : goal.side_primes-returns-then-eq-clause-primes
 side_primes-returns-then-eq-clause-primes g t c =

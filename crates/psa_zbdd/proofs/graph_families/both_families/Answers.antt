@@ -3,7 +3,7 @@ use Rattle.std.proofs.lemmas.Result.{err_from_is_err_and}
 use Rattle.psa_nodes.specs.Families.{IsProductMember}
 use Rattle.psa_nodes.specs.Readings.{has}
 use Rattle.psa_zbdd.specs.FamilyProducts.{IsProductSource}
-use Rattle.psa_zbdd.specs.Sides.{pair_level}
+use Rattle.psa_nodes.specs.Progress.{pair_level}
 use Rattle.psa_zbdd.proofs.GraphFamilySteps.{wider-source, reduced-at, reduced-call, product-before}
 use Rattle.psa_zbdd.proofs.graph_families.both_families.Goals as goal
 

@@ -2,7 +2,7 @@ use Rattle.std.proofs.Common.{Ok, Err}
 use Rattle.std.proofs.lemmas.Result.{err_from_is_err_and}
 use Rattle.psa_nodes.specs.Readings.{has}
 use Rattle.psa_nodes.specs.Tails.{either, IsMember}
-use Rattle.psa_zbdd.specs.Sides.{pair_level}
+use Rattle.psa_nodes.specs.Progress.{pair_level}
 use Rattle.psa_zbdd.proofs.GraphFamilySteps.{wider-source, reduced-at, reduced-call, union-before}
 use Rattle.psa_zbdd.proofs.graph_families.either_family.Goals as goal
 

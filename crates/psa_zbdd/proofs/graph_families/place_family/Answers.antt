@@ -3,7 +3,7 @@ use Rattle.psa_logic.specs.Sets.{occurs}
 use Rattle.psa_graph.specs.declared.graph.GraphNode.TheVariants as nodes
 use Rattle.psa_graph.specs.Truths.{literal_truth, place_truth}
 use Rattle.psa_nodes.specs.declared.node.TheConstants.NodeId.{EMPTY}
-use Rattle.psa_bdd.proofs.PlaceTruthLemmas.{node-here, node-behind, place-reads}
+use Rattle.psa_graph.proofs.PlaceTruthLemmas.{node-here, node-behind, place-reads}
 use Rattle.psa_zbdd.specs.GraphFamilies.{IsSignedImplicant, IsGraphProduct}
 use Rattle.psa_zbdd.proofs.GraphFamilySteps.{wider-source, place-product, place-same, both-family, both-call, either-family, either-call}
 use Rattle.psa_zbdd.proofs.LiteralFamilyLemmas.{unit-cover, empty-cover}

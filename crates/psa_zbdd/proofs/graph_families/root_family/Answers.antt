@@ -5,7 +5,7 @@ use Rattle.psa_nodes.specs.declared.node.NodeId.{NodeId}
 use Rattle.psa_nodes.specs.declared.node.NodeError.TheVariants.{Memory}
 use Rattle.psa_nodes.specs.declared.node.TheConstants.NodeId.{EMPTY}
 use Rattle.psa_nodes.proofs.CallerLemmas.{progress-own, call-same, call-done, call-memory, call-then}
-use Rattle.psa_bdd.specs.Building.{IsNeeded, HoldsOfSidesAt}
+use Rattle.psa_graph.specs.Needs.{IsNeeded, HoldsOfSidesAt}
 use Rattle.psa_zbdd.specs.GraphFamilies.{IsCoverAt, IsCovered}
 use Rattle.psa_zbdd.proofs.GraphFamilySteps.{covered-none, sides-covered, covered-more}
 use Rattle.psa_zbdd.proofs.graph_families.root_family.Goals as goal

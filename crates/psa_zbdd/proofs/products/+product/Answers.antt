@@ -7,10 +7,10 @@ use Rattle.psa_nodes.specs.declared.node.TheConstants.NodeId.{EMPTY}
 use Rattle.psa_nodes.specs.Readings.{stands}
 use Rattle.psa_nodes.specs.Progress.{IsResult}
 use Rattle.psa_nodes.proofs.CallerLemmas.{grown-own, stands-weaker}
-use Rattle.psa_zbdd.specs.Sides.{pair_level}
+use Rattle.psa_nodes.specs.Progress.{pair_level}
 use Rattle.psa_zbdd.specs.FamilyProducts.{IsHighSide}
-use Rattle.psa_zbdd.proofs.LevelLemmas.{pair-past}
-use Rattle.psa_zbdd.proofs.ResultLemmas.{remembered-result}
+use Rattle.psa_families.proofs.LevelLemmas.{pair-past}
+use Rattle.psa_nodes.proofs.CallerLemmas.{remembered-result}
 use Rattle.psa_zbdd.proofs.ProductSideSteps.{any-step, second-step, two-steps, three-steps, alone-side, four-steps, whole-side, both_stand, grown_two, now_left_hi, now_left_lo, now_right_hi, any_stands, nothing-high}
 use Rattle.psa_zbdd.proofs.ProductSteps.{product_key, past_lo, low_operands, sides_stand, low-exit, high-exit, ready, absent, whole-call}
 use Rattle.psa_zbdd.proofs.products.+product.Goals as goal
@@ -69,15 +69,15 @@ product-returns-in_err-hi-clause-call g t c =
     c.product.new.table c.in_ok-lo.lo c.in_ok-lo.ensures.call c.in_ok-lo.ensures.product
     c.with_variable.new.table (Err c.in_err-hi.field-0.0) c.in_err-hi.ensures.call)
 
-pub product-finish-requires-clause-ready : goal.product-finish-requires-clause-ready
-product-finish-requires-clause-ready g t c =
+pub product-remember_family-requires-clause-ready : goal.product-remember_family-requires-clause-ready
+product-remember_family-requires-clause-ready g t c =
     let a = c.args in
     ready a.table.now a.left a.right a.limit c.split-sides.result c.split-sides.ensures.sides c.check.ensures.fit
     c.product.new.table c.in_ok-lo.lo c.in_ok-lo.ensures.call c.in_ok-lo.ensures.product
     c.with_variable.new.table c.in_ok-hi.hi c.in_ok-hi.ensures.call c.in_ok-hi.ensures.side
 
-pub product-finish-requires-clause-absent : goal.product-finish-requires-clause-absent
-product-finish-requires-clause-absent g t c =
+pub product-remember_family-requires-clause-absent : goal.product-remember_family-requires-clause-absent
+product-remember_family-requires-clause-absent g t c =
     let a = c.args in
     absent a.table.now a.left a.right a.limit c.split-sides.result c.split-sides.ensures.sides c.check.ensures.fit
     c.product.new.table c.in_ok-lo.lo c.in_ok-lo.ensures.call c.in_ok-lo.ensures.product
@@ -89,7 +89,7 @@ product-returns-clause-call g t c =
     whole-call a.table.now a.left a.right a.limit c.split-sides.result c.split-sides.ensures.sides c.check.ensures.fit
     c.product.new.table c.in_ok-lo.lo c.in_ok-lo.ensures.call c.in_ok-lo.ensures.product
     c.with_variable.new.table c.in_ok-hi.hi c.in_ok-hi.ensures.call c.in_ok-hi.ensures.side
-    c.finish.new.table c.finish.result c.finish.ensures.call
+    c.remember_family.new.table c.remember_family.result c.remember_family.ensures.call
 
 -- the steps to the side with the variable: what each takes
 pub with_variable-returns-in_default-clause-side : goal.with_variable-returns-in_default-clause-side

@@ -1,5 +1,5 @@
 use Rattle.std.proofs.Common.{◌-◌, ◌*◌, ◌^◌}
-use Rattle.psa_zbdd.proofs.LevelLemmas.{left_above}
+use Rattle.psa_families.proofs.LevelLemmas.{left_above}
 use Rattle.psa_zbdd.proofs.products.+product.Given as goal
 
 abbrev pub decreases-product : goal.decreases-product

@@ -1,7 +1,7 @@
 use Rattle.std.proofs.Common.{◌≡◌, ◌+◌, true, Some, length, reverse, refl, sym, subst, true≢false, inl}
 use Rattle.psa_nodes.specs.Readings.{node_at, stands, node_reading}
 use Rattle.psa_nodes.specs.Sizes.{IsSizedAs}
-use Rattle.psa_nodes.specs.Table.{Table, table_of, IsTable, IsStored, MakesNode}
+use Rattle.psa_nodes.specs.Table.{Table, table_of, IsTable, MakesNode}
 use Rattle.psa_nodes.proofs.MakesNodeLemmas.{added_table, added_makes, made_ok}
 use Rattle.psa_nodes.proofs.CanonicalLemmas.{new-at}
 use Rattle.psa_nodes.proofs.table.NodeTable.enter.Goals as goal

@@ -1,9 +1,8 @@
-use Rattle.std.proofs.Common.{◌≡◌, ℕ, ◌+◌, ◌-◌, List, length, reverse, Some, ap, sym, subst, ◌∙◌, arith}
+use Rattle.std.proofs.Common.{◌≡◌, List, length, reverse, ap, subst, arith}
 use Rattle.std.proofs.lemmas.List.{length-reverse}
 use Rattle.psa_nodes.specs.declared.node.Kind.TheVariants.{Zbdd}
 use Rattle.psa_nodes.specs.declared.node.Node.{Node}
-use Rattle.psa_nodes.specs.Readings.{has, stands}
-use Rattle.psa_nodes.specs.Sizes.{TellsSizes, AreSized}
+use Rattle.psa_nodes.specs.Sizes.{AreSized}
 use Rattle.psa_nodes.specs.Table.{Table}
 use Rattle.psa_nodes.proofs.StandsLemmas.{stands-below}
 use Rattle.psa_nodes.proofs.SizeLemmas.{terminal-sizes, sized-length, size-read}

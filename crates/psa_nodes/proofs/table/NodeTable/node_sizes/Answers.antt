@@ -1,8 +1,8 @@
-use Rattle.std.proofs.Common.{◌≡◌, ◌+◌, ◌*◌, ◌%◌, ℕ, true, arith, sym, subst}
+use Rattle.std.proofs.Common.{◌+◌, ◌*◌, ◌%◌, arith, sym, subst}
 use Rattle.std.specs.Int.Bits.{bit_or}
 use Rattle.psa_nodes.specs.declared.node.Kind.{Kind}
 use Rattle.psa_nodes.specs.declared.node.Kind.TheVariants.{Zbdd}
-use Rattle.psa_nodes.specs.Readings.{stands, node_reading}
+use Rattle.psa_nodes.specs.Readings.{node_reading}
 use Rattle.psa_nodes.specs.Sizes.{IsSizedAs}
 use Rattle.psa_nodes.proofs.StandsLemmas.{stands-weaker}
 use Rattle.psa_nodes.proofs.SizeLemmas.{node-sizes}

@@ -1,0 +1,17 @@
+pub mod JoinedLemmas
+pub mod TerminalLemmas
+pub mod SidesLemmas
+pub mod LevelLemmas
+pub mod NodeSidesLemmas
+pub mod UnionSteps
+pub mod SubsetRemovalLemmas
+pub mod SubsetRemovalSteps
+pub mod DifferenceLemmas
+pub mod DifferenceSteps
+pub mod PositiveProductLemmas
+pub mod ShortMemberLemmas
+pub mod ShortMemberSteps
+pub mod PositivePartLemmas
+pub mod PositivePartSteps
+pub mod MinimalMemberLemmas
+pub mod MinimalSetsSteps

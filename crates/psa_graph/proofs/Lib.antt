@@ -1,0 +1,2 @@
+pub mod PlaceTruthLemmas
+pub mod MarkLemmas
