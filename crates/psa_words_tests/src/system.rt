@@ -9,6 +9,7 @@ use psa_ports::{Failed, Folder, StdFolder, StdSink, put as put_all};
 use std::alloc::Global;
 use std::io;
 use std::io::Write;
+use std::mem::forget;
 use std::rt::Files;
 
 #[derive(Clone, Copy)]
@@ -83,6 +84,7 @@ fn put_first_bytes<R: Files + Drop>(files: R, out: &mut String, name: &str) {
     let mut buf = [1u8; 4];
     put_count(out, first_bytes(&mut folder, name, &mut buf));
     put_counts(out, [folder.faults(), folder.opens(), folder.reads()]);
+    forget(folder);
 }
 
 /// What one folder gives of a file that it opens behind others.
@@ -103,31 +105,25 @@ fn put_next<R: Files + Drop>(folder: &mut StdFolder<R>, out: &mut String, name: 
     }
 }
 
-/// The rows of `SYSTEM` that do not hold, each with what was found.
-pub fn wrong_files<R: Files + Copy + Drop>(alloc: Global, files: R) -> String {
-    let mut wrong = String::new(alloc);
+/// Tells of the rows of `SYSTEM` that do not hold.
+pub fn put_wrong_files<R: Files + Copy + Drop>(alloc: Global, wrong: &mut String, files: R) {
     for row in SYSTEM.lines() {
         let (name, told) = row.split_once(" => ").unwrap_or((row, "an answer"));
         let mut found = String::new(alloc);
         put_first_bytes(files, &mut found, name);
-        put_if_wrong(&mut wrong, row, told, found.as_str());
+        put_if_wrong(wrong, row, told, found.as_str());
     }
-    wrong
 }
 
-/// The rows of `IN_TURN` that do not hold, each with what was found, and the counts at their end.
-pub fn wrong_in_turn<R: Files + Drop>(alloc: Global, files: R) -> String {
-    let mut wrong = String::new(alloc);
+/// Tells of the rows of `IN_TURN` that do not hold, and the counts at their end.
+pub fn put_wrong_in_turn<R: Files + Drop>(alloc: Global, wrong: &mut String, files: R) {
     let mut folder = StdFolder::new(files);
     for row in IN_TURN.lines() {
         let (name, told) = row.split_once(" => ").unwrap_or((row, "an answer"));
         let mut found = String::new(alloc);
         put_next(&mut folder, &mut found, name);
-        put_if_wrong(&mut wrong, row, told, found.as_str());
+        put_if_wrong(wrong, row, told, found.as_str());
     }
-    put_counts(
-        &mut wrong,
-        [folder.faults(), folder.opens(), folder.reads()],
-    );
-    wrong
+    put_counts(wrong, [folder.faults(), folder.opens(), folder.reads()]);
+    forget(folder);
 }

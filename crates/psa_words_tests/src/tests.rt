@@ -1,7 +1,7 @@
 use crate::number_rows::{DECIMALS, IN_UNIT, INTERVALS, PRINTED};
 use crate::port_rows::{FOLDERS, SINKS};
 use crate::rows::{Subject, wrong_rows};
-use crate::system::{Fault, fails, writes, wrong_files, wrong_in_turn};
+use crate::system::{Fault, fails, put_wrong_files, put_wrong_in_turn, writes};
 use crate::word_rows::{ACCEPTED, REFUSED};
 
 #[test]
@@ -23,10 +23,10 @@ fn holds_in_each_row(rt: HostRuntime) {
 
 #[test]
 fn reads_files_of_the_system(rt: HostRuntime) {
-    let wrong = wrong_files(rt.alloc(), &rt);
-    assert_eq!(rt; wrong.as_str(), "");
-    let counts = wrong_in_turn(rt.alloc(), &rt);
-    assert_eq!(rt; counts.as_str(), " 1 5 5");
+    let mut wrong = String::new(rt.alloc());
+    put_wrong_files(rt.alloc(), &mut wrong, &rt);
+    put_wrong_in_turn(rt.alloc(), &mut wrong, &rt);
+    assert_eq!(rt; wrong.as_str(), " 1 5 5");
 }
 
 #[test]
