@@ -1,4 +1,4 @@
-//! The workload `cut-sets` of crates/psa_speed in plain Rust, to compare: rustc -O benchmarks/cut_sets.rs
+//! Minimal cut sets of plants in plain Rust, to compare ways of remembering results: rustc -O benchmarks/cut_sets.rs
 //! Its words are a way, the number of plants and the limits, as `./cut_sets wider 8 20 6`. All limits run on one table.
 //! The ways differ in how a result on the minimal cut sets of a node is remembered:
 //! - `wider`: by node and limit, each event taken lowers the limit (Rauzy); a result for a greater limit, up to that of

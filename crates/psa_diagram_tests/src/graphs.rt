@@ -3,14 +3,13 @@ ghost use Rattle.psa_graph.specs.Truths.{IsNodeBehind, AreChildrenFirst, IsGraph
 ghost use Rattle.psa_nodes.specs.Nodes.{IsBounded};
 ghost use Rattle.psa_nodes.specs.declared.node.TheConstants.{MAX_RANKS};
 
-use crate::making::cut_sets;
+use crate::making::{Call, answer};
 use psa_bdd::build;
 use psa_graph::{Graph, GraphNode};
 use psa_nodes::{NodeError, NodeTable, Steps};
 use psa_zbdd::minimal_of_graph;
 use sqlite_items::Items;
 use std::alloc::Global;
-use std::marker::Brand;
 use std::process::Abort;
 use std::sync::ledger::{Blank, Ledger};
 
@@ -125,13 +124,13 @@ fn expect_same<L: Ledger>(
 {
     let root = build(alloc, table, graph, steps)?;
     let by_graph = minimal_of_graph(alloc, table, graph, limit, steps)?;
-    let by_diagram = cut_sets(rt, table, root, limit, steps)?;
-    assert_eq!(rt; by_graph, by_diagram);
+    let by_diagram = answer(rt, table, Call::Cuts, limit, root, root, steps)?;
+    assert!(rt; by_graph == by_diagram);
     Ok(())
 }
 
 /// Each truth over three events by a graph of either form, within a limit, on one table.
-fn every_truth<L: Ledger>(
+pub fn every_graph<L: Ledger>(
     rt: &impl Abort,
     alloc: Global,
     table: &mut NodeTable,
@@ -151,13 +150,4 @@ fn every_truth<L: Ledger>(
         expect_same(rt, alloc, table, &of_others, limit, &mut steps)?;
     }
     Ok(())
-}
-
-#[test]
-fn finds_the_same_cut_sets_either_way(rt: HostRuntime) {
-    for limit in [32, 2, 1] {
-        let mut table = NodeTable::new(rt.alloc());
-        let answer = every_truth::<Brand>(&rt, rt.alloc(), &mut table, limit, Blank::new(1));
-        assert_eq!(rt; answer, Ok(()));
-    }
 }

@@ -3,16 +3,20 @@
 #![tactic(auto)]
 
 #[cfg(test)]
-mod connectives;
-#[cfg(test)]
-mod families;
+mod calls;
 #[cfg(test)]
 mod graphs;
 #[cfg(test)]
-mod limits;
+mod lines;
 #[cfg(test)]
 mod making;
 #[cfg(test)]
-mod nodes;
-#[cfg(test)]
 mod primes;
+#[cfg(test)]
+mod remembering;
+#[cfg(test)]
+mod rows;
+#[cfg(test)]
+mod tests;
+#[cfg(test)]
+mod triples;

@@ -84,10 +84,48 @@ pub fn zbdd<L: Ledger>(
     table.zbdd_node(var, hi, lo)
 }
 
-/// Where both diagrams are true.
-pub fn conjunction<L: Ledger>(
+/// A public call on nodes, and what it has as operands.
+#[derive(Clone, Copy)]
+pub enum Call {
+    And,
+    Or,
+    Union,
+    Without,
+    Product,
+    Positive,
+    Minimal,
+    Cuts,
+    Primes,
+    /// No call: the node of decision diagrams itself.
+    Bdd,
+    /// No call: the node of families itself.
+    Zbdd,
+}
+
+impl Call {
+    /// The kind of the operands.
+    pub fn operands(self) -> Kind {
+        match self {
+            Call::And | Call::Or | Call::Cuts | Call::Primes | Call::Bdd => Kind::Bdd,
+            _ => Kind::Zbdd,
+        }
+    }
+
+    /// The kind of the answer.
+    pub fn answer(self) -> Kind {
+        match self {
+            Call::And | Call::Or | Call::Bdd => Kind::Bdd,
+            _ => Kind::Zbdd,
+        }
+    }
+}
+
+/// What a call on decision diagrams answers.
+fn of_diagrams<L: Ledger>(
     rt: &impl Abort,
     table: &mut NodeTable,
+    call: Call,
+    limit: u8,
     left: NodeId,
     right: NodeId,
     steps: &mut Steps<L>,
@@ -97,29 +135,21 @@ pub fn conjunction<L: Ledger>(
 {
     expect_node(rt, table, Kind::Bdd, 0, left, steps);
     expect_node(rt, table, Kind::Bdd, 0, right, steps);
-    and(table, left, right, steps)
+    match call {
+        Call::And => and(table, left, right, steps),
+        Call::Or => or(table, left, right, steps),
+        Call::Cuts => minimal_of_bdd(table, left, limit, steps),
+        Call::Primes => primes_of_bdd(table, left, limit, steps),
+        _ => Ok(left),
+    }
 }
 
-/// Where one of two diagrams is true.
-pub fn disjunction<L: Ledger>(
+/// What a call on families answers.
+fn of_families<L: Ledger>(
     rt: &impl Abort,
     table: &mut NodeTable,
-    left: NodeId,
-    right: NodeId,
-    steps: &mut Steps<L>,
-) -> Result<NodeId, NodeError>
-    requires { IsBounded table.old.nodes }
-    ensures { IsBounded table.new.nodes }
-{
-    expect_node(rt, table, Kind::Bdd, 0, left, steps);
-    expect_node(rt, table, Kind::Bdd, 0, right, steps);
-    or(table, left, right, steps)
-}
-
-/// The sets of either family.
-pub fn joined<L: Ledger>(
-    rt: &impl Abort,
-    table: &mut NodeTable,
+    call: Call,
+    limit: u8,
     left: NodeId,
     right: NodeId,
     steps: &mut Steps<L>,
@@ -129,13 +159,22 @@ pub fn joined<L: Ledger>(
 {
     expect_node(rt, table, Kind::Zbdd, 0, left, steps);
     expect_node(rt, table, Kind::Zbdd, 0, right, steps);
-    union(table, left, right, steps)
+    match call {
+        Call::Union => union(table, left, right, steps),
+        Call::Without => without(table, left, right, steps),
+        Call::Product => product(table, left, right, limit, steps),
+        Call::Positive => positive_part(table, left, steps),
+        Call::Minimal => minimal_sets(table, left, steps),
+        _ => Ok(left),
+    }
 }
 
-/// The sets of the left family that include none of the right one.
-pub fn remaining<L: Ledger>(
+/// What a call answers of operands and a limit; one that it does not have is not looked at.
+pub fn answer<L: Ledger>(
     rt: &impl Abort,
     table: &mut NodeTable,
+    call: Call,
+    limit: u8,
     left: NodeId,
     right: NodeId,
     steps: &mut Steps<L>,
@@ -143,82 +182,8 @@ pub fn remaining<L: Ledger>(
     requires { IsBounded table.old.nodes }
     ensures { IsBounded table.new.nodes }
 {
-    expect_node(rt, table, Kind::Zbdd, 0, left, steps);
-    expect_node(rt, table, Kind::Zbdd, 0, right, steps);
-    without(table, left, right, steps)
-}
-
-/// The unions of a set of each family, consistent and within a limit.
-pub fn multiplied<L: Ledger>(
-    rt: &impl Abort,
-    table: &mut NodeTable,
-    left: NodeId,
-    right: NodeId,
-    limit: u8,
-    steps: &mut Steps<L>,
-) -> Result<NodeId, NodeError>
-    requires { IsBounded table.old.nodes }
-    ensures { IsBounded table.new.nodes }
-{
-    expect_node(rt, table, Kind::Zbdd, 0, left, steps);
-    expect_node(rt, table, Kind::Zbdd, 0, right, steps);
-    product(table, left, right, limit, steps)
-}
-
-/// The sets of a family without their negative literals.
-pub fn positive<L: Ledger>(
-    rt: &impl Abort,
-    table: &mut NodeTable,
-    root: NodeId,
-    steps: &mut Steps<L>,
-) -> Result<NodeId, NodeError>
-    requires { IsBounded table.old.nodes }
-    ensures { IsBounded table.new.nodes }
-{
-    expect_node(rt, table, Kind::Zbdd, 0, root, steps);
-    positive_part(table, root, steps)
-}
-
-/// The sets of a family that include no other.
-pub fn least<L: Ledger>(
-    rt: &impl Abort,
-    table: &mut NodeTable,
-    root: NodeId,
-    steps: &mut Steps<L>,
-) -> Result<NodeId, NodeError>
-    requires { IsBounded table.old.nodes }
-    ensures { IsBounded table.new.nodes }
-{
-    expect_node(rt, table, Kind::Zbdd, 0, root, steps);
-    minimal_sets(table, root, steps)
-}
-
-/// The minimal cut sets of a diagram within a limit.
-pub fn cut_sets<L: Ledger>(
-    rt: &impl Abort,
-    table: &mut NodeTable,
-    root: NodeId,
-    limit: u8,
-    steps: &mut Steps<L>,
-) -> Result<NodeId, NodeError>
-    requires { IsBounded table.old.nodes }
-    ensures { IsBounded table.new.nodes }
-{
-    expect_node(rt, table, Kind::Bdd, 0, root, steps);
-    minimal_of_bdd(table, root, limit, steps)
-}
-
-/// The prime implicants of a diagram within a limit.
-pub fn prime_implicants<L: Ledger>(
-    rt: &impl Abort,
-    table: &mut NodeTable,
-    root: NodeId,
-    limit: u8,
-    steps: &mut Steps<L>,
-) -> Result<NodeId, NodeError>
-    requires { IsBounded table.old.nodes }
-    ensures { IsBounded table.new.nodes }
-{
-    expect_node(rt, table, Kind::Bdd, 0, root, steps);
-    primes_of_bdd(table, root, limit, steps)
+    match call.operands() {
+        Kind::Bdd => of_diagrams(rt, table, call, limit, left, right, steps),
+        Kind::Zbdd => of_families(rt, table, call, limit, left, right, steps),
+    }
 }

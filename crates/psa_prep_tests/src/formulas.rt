@@ -5,16 +5,16 @@ ghost use Rattle.psa_nodes.specs.Nodes.{IsBounded};
 ghost use Rattle.psa_graph.specs.Truths.{IsGraph};
 ghost use Rattle.psa_prep_tests.specs.Studies.{IsStudy};
 
+use crate::lines::{put, put_number};
 use crate::notation::{text_of, value};
 use crate::studies::{Study, read_study};
 use crate::truths::{Ranked, diagram, diagram_value, graph_value, rank_target};
 use psa_model::Target;
-use psa_nodes::{NodeTable, Steps};
+use psa_nodes::{NodeId, NodeTable, Steps};
 use std::alloc::Global;
-use std::fmt::Write;
 use std::marker::Brand;
+use std::mem::forget;
 use std::sync::ledger::{Blank, Ledger};
-use std::test::*;
 
 /// The sets of four events.
 const SETS: u32 = 16;
@@ -155,57 +155,118 @@ g
 #1,1:#1,1:ab.#1,1:bc.c.
 ";
 
-/// Tells each set in which a graph or its diagram does not read as the formula; None where memory ran out.
-fn push_differences<L: Ledger>(
+/// Tells each set in which a graph or its diagram does not read as the formula.
+fn put_sets<L: Ledger>(
+    alloc: Global,
+    told: &mut String,
+    table: &NodeTable,
+    root: NodeId,
+    formula: &str,
+    ranked: &Ranked,
+    steps: &mut Steps<L>,
+) {
+    for set in 0..SETS {
+        let wanted = value(alloc, formula, ranked.ranks.as_slice(), set).ok();
+        let by_graph = graph_value(alloc, &ranked.graph, set).ok();
+        let by_diagram = diagram_value(table, root, set, steps);
+        if wanted.is_none() || by_graph != wanted || by_diagram != wanted {
+            put(told, formula);
+            put(told, " in ");
+            put_number(told, &set);
+            put(told, "\n");
+        }
+    }
+}
+
+/// Tells what differs of the diagram of a target.
+fn put_differences<L: Ledger>(
     alloc: Global,
     told: &mut String,
     table: &mut NodeTable,
     formula: &str,
     ranked: &Ranked,
     steps: &mut Steps<L>,
-) -> Option<()>
+)
     requires graph { IsGraph ranked.now.graph }
     requires width { ranked.now.graph.width ≤ MAX_RANKS }
     requires bounded { IsBounded table.old.nodes }
     ensures { IsBounded table.new.nodes }
 {
-    let root = diagram(alloc, table, ranked, steps).ok()?;
-    for set in 0..SETS {
-        let wanted = value(alloc, formula, ranked.ranks.as_slice(), set).ok()?;
-        let by_graph = graph_value(alloc, &ranked.graph, set).ok()?;
-        let by_diagram = diagram_value(table, root, set, steps)?;
-        if by_graph != wanted || by_diagram != wanted {
-            write!(told, "{formula} in {set}\n").ok()?;
-        }
+    match diagram(alloc, table, ranked, steps) {
+        Ok(root) => put_sets(alloc, told, table, root, formula, ranked, steps),
+        Err(_) => put(told, "no diagram\n"),
     }
-    Some(())
+}
+
+/// Tells what differs of a target.
+fn put_target<L: Ledger>(
+    alloc: Global,
+    told: &mut String,
+    table: &mut NodeTable,
+    formula: &str,
+    study: &Study,
+    target: &Target,
+    steps: &mut Steps<L>,
+)
+    requires study { IsStudy study.now.expanded study.now.targets }
+    requires target { target_stands study.now.expanded.model target.now ≡ true }
+    requires bounded { IsBounded table.old.nodes }
+    ensures { IsBounded table.new.nodes }
+{
+    match rank_target(alloc, study, target) {
+        Ok(ranked) => put_differences(alloc, told, table, formula, &ranked, steps),
+        Err(_) => put(told, "no ranks\n"),
+    }
 }
 
 /// Tells what differs of the targets of a formula's model, and their number where it is not one.
-fn push_targets<L: Ledger>(
+fn put_targets<L: Ledger>(
     alloc: Global,
     told: &mut String,
     table: &mut NodeTable,
     formula: &str,
     study: &Study,
     steps: &mut Steps<L>,
-) -> Option<()>
+)
     requires study { IsStudy study.now.expanded study.now.targets }
     requires bounded { IsBounded table.old.nodes }
     ensures { IsBounded table.new.nodes }
 {
     for target in study.targets.as_slice() {
-        let ranked = rank_target(alloc, study, target).ok()?;
-        push_differences(alloc, told, table, formula, &ranked, steps)?;
+        put_target(alloc, told, table, formula, study, target, steps);
     }
     if study.targets.len() != 1 {
-        write!(told, "{formula}: {} targets\n", study.targets.len()).ok()?;
+        put(told, formula);
+        put(told, ": not one target\n");
     }
-    Some(())
+}
+
+/// Tells what differs of a formula.
+fn put_formula<L: Ledger>(
+    alloc: Global,
+    told: &mut String,
+    table: &mut NodeTable,
+    formula: &str,
+    steps: &mut Steps<L>,
+)
+    requires bounded { IsBounded table.old.nodes }
+    ensures { IsBounded table.new.nodes }
+{
+    let text = text_of(alloc, formula);
+    match read_study(alloc, text.as_str(), true) {
+        Some(study) => {
+            put_targets(alloc, told, table, formula, &study, steps);
+            forget(study);
+        }
+        None => {
+            put(told, formula);
+            put(told, ": no model\n");
+        }
+    }
 }
 
 /// What differs, in lines: nothing where all formulas have one target, which reads as they do.
-fn differences<L: Ledger>(alloc: Global, table: &mut NodeTable, blank: Blank) -> Option<String>
+fn differences<L: Ledger>(alloc: Global, table: &mut NodeTable, blank: Blank) -> String
     requires name { blank.name ≡ L.name }
     requires parts { blank.parts ≡ L.parts }
     requires some { 0 < blank.parts }
@@ -214,11 +275,9 @@ fn differences<L: Ledger>(alloc: Global, table: &mut NodeTable, blank: Blank) ->
     let mut told = String::new(alloc);
     let mut steps = Steps::<L>::begin(blank);
     for formula in FORMULAS.lines() {
-        let text = text_of(alloc, formula).ok()?;
-        let study = read_study(alloc, text.as_str(), true)?;
-        push_targets(alloc, &mut told, table, formula, &study, &mut steps)?;
+        put_formula(alloc, &mut told, table, formula, &mut steps);
     }
-    Some(told)
+    told
 }
 
 /// Each formula over four events, house events in both states and constants: its graph and its diagram
@@ -227,5 +286,5 @@ fn differences<L: Ledger>(alloc: Global, table: &mut NodeTable, blank: Blank) ->
 fn reads_as_the_formula(rt: HostRuntime) {
     let mut table = NodeTable::new(rt.alloc());
     let told = differences::<Brand>(rt.alloc(), &mut table, Blank::new(1));
-    assert_eq!(rt; told.expect(&rt, "memory").as_str(), "");
+    assert_eq!(rt; told.as_str(), "");
 }

@@ -4,6 +4,8 @@
 #[cfg(test)]
 mod formulas;
 #[cfg(test)]
+mod lines;
+#[cfg(test)]
 mod notation;
 #[cfg(test)]
 mod outlines;

@@ -2,6 +2,7 @@
 //!
 //! `a` to `d` are basic events, `h` is a house event that is on and `k` one that is off, `t` and `f` are
 //! constants, and `g` is a gate of its own. `@2:` stands for at least 2, `#1,3:` for 1 to 3.
+use crate::lines::put;
 use psa_model::EventNumber;
 use psa_text::OutOfMemory;
 use std::alloc::Global;
@@ -57,42 +58,43 @@ fn end(sign: u8) -> &'static str {
 }
 
 /// A formula as it stands in a file.
-fn push_formula(alloc: Global, out: &mut String, formula: &str) -> Result<(), OutOfMemory> {
+fn put_formula(alloc: Global, out: &mut String, formula: &str) {
     let mut open: Vec<u8> = Vec::new(alloc);
     for sign in formula.as_bytes() {
         if *sign == b'.' {
-            if let Some(connective) = open.pop() {
-                out.push_str(end(connective))?;
-            }
+            put(out, end(open.pop().unwrap_or(b' ')));
         } else {
-            out.push_str(piece(*sign))?;
+            put(out, piece(*sign));
             if !end(*sign).is_empty() {
-                open.push(*sign)?;
+                let _left_out = open.push(*sign);
             }
         }
     }
-    Ok(())
 }
 
 /// A file whose one top event has the formula. The gate `g` stands in it where the formula names it.
-pub fn text_of(alloc: Global, formula: &str) -> Result<String, OutOfMemory> {
-    let mut out = String::from_str(
-        alloc,
+pub fn text_of(alloc: Global, formula: &str) -> String {
+    let mut out = String::new(alloc);
+    put(
+        &mut out,
         "<opsa-mef><define-fault-tree name='F'><define-gate name='top'>",
-    )?;
-    push_formula(alloc, &mut out, formula)?;
-    out.push_str("</define-gate>")?;
+    );
+    put_formula(alloc, &mut out, formula);
+    put(&mut out, "</define-gate>");
     if formula.as_bytes().contains(&b'g') {
-        out.push_str("<define-gate name='g'>")?;
-        push_formula(alloc, &mut out, "|c&bh..")?;
-        out.push_str("</define-gate>")?;
+        put(&mut out, "<define-gate name='g'>");
+        put_formula(alloc, &mut out, "|c&bh..");
+        put(&mut out, "</define-gate>");
     }
-    out.push_str("</define-fault-tree><model-data>")?;
-    out.push_str("<define-basic-event name='a'/><define-basic-event name='b'/>")?;
-    out.push_str("<define-basic-event name='c'/><define-basic-event name='d'/>")?;
-    out.push_str("<define-house-event name='h'><constant value='true'/></define-house-event>")?;
-    out.push_str("<define-house-event name='k'/></model-data></opsa-mef>")?;
-    Ok(out)
+    put(
+        &mut out,
+        "</define-fault-tree><model-data>\
+        <define-basic-event name='a'/><define-basic-event name='b'/>\
+        <define-basic-event name='c'/><define-basic-event name='d'/>\
+        <define-house-event name='h'><constant value='true'/></define-house-event>\
+        <define-house-event name='k'/></model-data></opsa-mef>",
+    );
+    out
 }
 
 /// Whether the event with the number occurs in a set of ranks, one bit a rank.

@@ -1,6 +1,8 @@
-ghost use Rattle.std.specs.Prelude.{IfOk, IfSome};
+ghost use Rattle.std.specs.Prelude.{◌≡◌, true, IfOk, IfSome};
+ghost use Rattle.std.specs.List.{list_all};
 ghost use Rattle.psa_model.specs.Drafts.{IsDraft};
 ghost use Rattle.psa_model.specs.Models.{IsModel, IsOfSize};
+ghost use Rattle.psa_model.specs.Standing.{target_stands};
 ghost use Rattle.psa_prep_tests.specs.Studies.{IsSmall, IsStudy};
 
 use psa_ccf::expand;
@@ -10,6 +12,7 @@ use psa_reader::read_model;
 use psa_text::{Document, Items, Scanner, TextError};
 use psa_walk::targets;
 use std::alloc::Global;
+use std::mem::forget;
 
 /// A model with its events and targets.
 #[derive(Drop)]
@@ -59,22 +62,39 @@ fn model_of(alloc: Global, text: &str) -> Option<Model>
     }
 }
 
+/// A model with its events, common cause groups expanded or not, and its targets.
+fn study_with(alloc: Global, model: Model, expanded: bool, targets: Targets) -> Option<Study>
+    requires promised { IsModel model }
+    requires few { IsOfSize model }
+    requires stand { list_all (target_stands model) targets ≡ true }
+    ensures { IfSome result (λ study. IsStudy study.expanded study.targets) }
+{
+    match expand(alloc, model, expanded) {
+        Ok(expanded) => {
+            if expanded.events.len() < MANY_EVENTS {
+                return Some(Study { expanded, targets });
+            }
+            forget(expanded);
+        }
+        Err(_) => {}
+    }
+    forget(targets);
+    None
+}
+
 /// The targets of a model, and its events, common cause groups expanded or not.
 fn study_of(alloc: Global, model: Model, expanded: bool) -> Option<Study>
     requires promised { IsModel model }
     requires few { IsOfSize model }
     ensures { IfSome result (λ study. IsStudy study.expanded study.targets) }
 {
-    let Ok(targets) = targets(alloc, &model) else {
-        return None;
-    };
-    let Ok(expanded) = expand(alloc, model, expanded) else {
-        return None;
-    };
-    if expanded.events.len() >= MANY_EVENTS {
-        return None;
+    match targets(alloc, &model) {
+        Ok(targets) => study_with(alloc, model, expanded, targets),
+        Err(_) => {
+            forget(model);
+            None
+        }
     }
-    Some(Study { expanded, targets })
 }
 
 /// What a text says; None where it has a fault.

@@ -1,17 +1,20 @@
-ghost use Rattle.std.specs.Prelude.{◌≡◌, ◌≤◌, ◌<◌};
+ghost use Rattle.std.specs.Prelude.{◌≡◌, ◌≤◌, ◌<◌, true};
+ghost use Rattle.psa_model.specs.Standing.{target_stands};
+ghost use Rattle.psa_graph.specs.Truths.{IsGraph};
+ghost use Rattle.psa_nodes.specs.declared.node.TheConstants.{MAX_RANKS};
 ghost use Rattle.psa_nodes.specs.Nodes.{IsBounded};
 ghost use Rattle.psa_prep_tests.specs.Studies.{IsStudy};
 
-use crate::outlines::outline;
+use crate::lines::{put, put_number};
+use crate::outlines::put_outline;
 use crate::studies::{Study, read_study};
-use crate::truths::{diagram, rank_target};
+use crate::truths::{Ranked, diagram, rank_target};
+use psa_model::Target;
 use psa_nodes::{NodeTable, Steps};
-use psa_text::OutOfMemory;
 use std::alloc::Global;
-use std::fmt::Write;
 use std::marker::Brand;
+use std::mem::forget;
 use std::sync::ledger::{Blank, Ledger};
-use std::test::*;
 
 const TREE: &str = "<opsa-mef>
 <define-initiating-event name='I' event-tree='E1'/>
@@ -128,10 +131,17 @@ const OF_MGL: &str = "\
 1 3 5 7 2 6 4 => 00
 ";
 
-/// What tells of the targets of a text, in lines; None where it has a fault or memory ran out.
-fn told(alloc: Global, text: &str, expanded: bool) -> Option<String> {
-    let study = read_study(alloc, text, expanded)?;
-    outline(alloc, &study).ok()
+/// What tells of the targets of a text, in lines.
+fn told(alloc: Global, text: &str, expanded: bool) -> String {
+    let mut out = String::new(alloc);
+    match read_study(alloc, text, expanded) {
+        Some(study) => {
+            put_outline(alloc, &mut out, &study);
+            forget(study);
+        }
+        None => put(&mut out, "no model\n"),
+    }
+    out
 }
 
 /// The ranks and truths of targets, by hand.
@@ -144,73 +154,104 @@ fn tells_targets(rt: HostRuntime) {
         (PAIR, false, OF_MEMBERS),
         (MGL, true, OF_MGL),
     ] {
-        let found = told(rt.alloc(), text, expanded).expect(&rt, "a model");
+        let found = told(rt.alloc(), text, expanded);
         assert_eq!(rt; found.as_str(), wanted);
     }
 }
 
-/// References to so many events.
-fn push_references(out: &mut String, count: u32) -> Result<(), OutOfMemory> {
-    for event in 0..count {
-        write!(out, "<basic-event name='e{event}'/>")?;
-    }
-    Ok(())
+/// A file of so many events under a connective, of which the tag with attributes and the end are given.
+fn wide(alloc: Global, open: &str, close: &str, count: u32) -> String {
+    let mut text = String::new(alloc);
+    put(
+        &mut text,
+        "<opsa-mef>\n<define-fault-tree name='F'>\n<define-gate name='top'>",
+    );
+    put(&mut text, open);
+    put_events(&mut text, "<basic-event name='e", count, "'/>");
+    put(&mut text, close);
+    put(&mut text, "</define-gate>\n");
+    put_events(&mut text, "<define-basic-event name='e", count, "'/>\n");
+    put(&mut text, "</define-fault-tree>\n</opsa-mef>\n");
+    text
 }
 
-/// The definitions of so many events.
-fn push_definitions(out: &mut String, count: u32) -> Result<(), OutOfMemory> {
+/// The numbers of so many events, each between two pieces.
+fn put_events(out: &mut String, front: &str, count: u32, back: &str) {
     for event in 0..count {
-        write!(out, "<define-basic-event name='e{event}'/>\n")?;
+        put(out, front);
+        put_number(out, &event);
+        put(out, back);
     }
-    Ok(())
-}
-
-/// A file of so many events under a connective: its tag with attributes, and its end.
-fn wide(alloc: Global, open: &str, close: &str, count: u32) -> Result<String, OutOfMemory> {
-    let mut text = String::from_str(alloc, "<opsa-mef>\n<define-fault-tree name='F'>\n")?;
-    text.push_str("<define-gate name='top'>")?;
-    text.push_str(open)?;
-    push_references(&mut text, count)?;
-    text.push_str(close)?;
-    text.push_str("</define-gate>\n")?;
-    push_definitions(&mut text, count)?;
-    text.push_str("</define-fault-tree>\n</opsa-mef>\n")?;
-    Ok(text)
 }
 
 /// 2,049 events are too many.
 #[test]
 fn refuses_too_many_events(rt: HostRuntime) {
-    let text = wide(rt.alloc(), "<or>", "</or>", 2_049).expect(&rt, "memory");
-    let found = told(rt.alloc(), text.as_str(), false).expect(&rt, "a model");
+    let text = wide(rt.alloc(), "<or>", "</or>", 2_049);
+    let found = told(rt.alloc(), text.as_str(), false);
     assert_eq!(rt; found.as_str(), "0:3: too many events top\n");
 }
 
-/// For each target the numbers of ranks, of nodes of the graph, of nodes of the diagram and of remembered
-/// results, in a line; None where memory ran out.
-fn sizes<L: Ledger>(alloc: Global, study: &Study, blank: Blank) -> Option<String>
+/// The numbers of ranks, of nodes of the graph, of nodes of the diagram and of remembered results.
+fn put_sizes<L: Ledger>(alloc: Global, out: &mut String, ranked: &Ranked, steps: &mut Steps<L>)
+    requires graph { IsGraph ranked.now.graph }
+    requires width { ranked.now.graph.width ≤ MAX_RANKS }
+{
+    let mut table = NodeTable::new(alloc);
+    if diagram(alloc, &mut table, ranked, steps).is_err() {
+        put(out, "no diagram ");
+    }
+    put_number(out, &ranked.ranks.len());
+    put(out, " ");
+    put_number(out, &ranked.graph.nodes.len());
+    put(out, " ");
+    put_number(out, &table.len());
+    put(out, " ");
+    put_number(out, &table.entries());
+}
+
+/// The sizes of a target.
+fn put_target<L: Ledger>(
+    alloc: Global,
+    out: &mut String,
+    study: &Study,
+    target: &Target,
+    steps: &mut Steps<L>,
+)
+    requires study { IsStudy study.now.expanded study.now.targets }
+    requires target { target_stands study.now.expanded.model target.now ≡ true }
+{
+    match rank_target(alloc, study, target) {
+        Ok(ranked) => put_sizes(alloc, out, &ranked, steps),
+        Err(_) => put(out, "no ranks"),
+    }
+    put(out, "\n");
+}
+
+/// The sizes of each target in a line.
+fn put_targets<L: Ledger>(alloc: Global, out: &mut String, study: &Study, blank: Blank)
     requires study { IsStudy study.now.expanded study.now.targets }
     requires name { blank.name ≡ L.name }
     requires parts { blank.parts ≡ L.parts }
     requires some { 0 < blank.parts }
 {
     let mut steps = Steps::<L>::begin(blank);
-    let mut told = String::new(alloc);
     for target in study.targets.as_slice() {
-        let mut table = NodeTable::new(alloc);
-        let ranked = rank_target(alloc, study, target).ok()?;
-        diagram(alloc, &mut table, &ranked, &mut steps).ok()?;
-        write!(told, "{} {} ", ranked.ranks.len(), ranked.graph.nodes.len()).ok()?;
-        write!(told, "{} {}\n", table.len(), table.entries()).ok()?;
+        put_target(alloc, out, study, target, &mut steps);
     }
-    Some(told)
 }
 
-/// The sizes of a wide connective.
-fn wide_sizes(alloc: Global, open: &str, close: &str, count: u32) -> Option<String> {
-    let text = wide(alloc, open, close, count).ok()?;
-    let study = read_study(alloc, text.as_str(), false)?;
-    sizes::<Brand>(alloc, &study, Blank::new(1))
+/// The sizes of a text's targets.
+fn sizes(alloc: Global, text: &str) -> String {
+    let mut out = String::new(alloc);
+    match read_study(alloc, text, false) {
+        Some(study) => {
+            put_targets::<Brand>(alloc, &mut out, &study, Blank::new(1));
+            forget(study);
+        }
+        None => put(&mut out, "no model\n"),
+    }
+    out
 }
 
 /// Wide connectives of 2,048 events and of fewer have graphs and diagrams of few nodes: of n events two a
@@ -239,7 +280,8 @@ fn keeps_wide_connectives_small(rt: HostRuntime) {
             "100 5101 5099 7449\n",
         ),
     ] {
-        let found = wide_sizes(rt.alloc(), open, close, count);
-        assert_eq!(rt; found.expect(&rt, "memory").as_str(), wanted, "{open}");
+        let text = wide(rt.alloc(), open, close, count);
+        let found = sizes(rt.alloc(), text.as_str());
+        assert_eq!(rt; found.as_str(), wanted);
     }
 }

@@ -1,224 +1,133 @@
+ghost use Rattle.std.specs.Bool.{OnTrue};
+ghost use Rattle.psa_number.specs.Operations.{IsInUnit};
+
+use crate::lines::{put, put_number};
+use crate::words::put_decimal;
 use psa_number::{
-    Decimal, Interval, NumberFault, add, add_in_unit, clamp_unit, complement, div, exponential,
-    interval_of, mul, neg, print_units, read_decimal, sub, times_in_unit,
+    Interval, MAX_END, NumberFault, UNITS, add, add_in_unit, clamp_unit, complement, div,
+    exponential, interval_of, mul, neg, print_units, read_decimal, sub, times_in_unit,
 };
 
-/// The sign, digits and exponent that a text reads as.
-fn parts(text: &[u8]) -> Result<(bool, u128, i16), NumberFault> {
-    match read_decimal(text) {
-        Ok(decimal) => Ok((decimal.negative, decimal.digits, decimal.exponent)),
-        Err(fault) => Err(fault),
+fn put_fault(out: &mut String, fault: NumberFault) {
+    put(
+        out,
+        match fault {
+            NumberFault::NotDecimal => "not a decimal",
+            NumberFault::TooManyDigits => "too many digits",
+            NumberFault::TooLarge => "too large",
+            NumberFault::ZeroDivisor => "zero divisor",
+            NumberFault::Negative => "negative",
+        },
+    );
+}
+
+/// The ends of an interval, or its fault.
+fn put_ends(out: &mut String, answer: Result<Interval, NumberFault>) {
+    match answer {
+        Ok(interval) => {
+            put_number(out, &interval.lo);
+            put(out, " ");
+            put_number(out, &interval.hi);
+        }
+        Err(fault) => put_fault(out, fault),
     }
 }
 
 /// The interval of a decimal's text.
-fn interval(text: &[u8]) -> Result<Interval, NumberFault> {
-    match read_decimal(text) {
+fn interval(text: &str) -> Result<Interval, NumberFault> {
+    match read_decimal(text.as_bytes()) {
         Ok(decimal) => Ok(interval_of(decimal)),
         Err(fault) => Err(fault),
     }
 }
 
-/// The ends of an answer.
-fn ends(answer: Result<Interval, NumberFault>) -> Result<(i128, i128), NumberFault> {
-    match answer {
-        Ok(interval) => Ok((interval.lo, interval.hi)),
-        Err(fault) => Err(fault),
+/// The interval of a decimal's text, or that between two.
+fn operand(text: &str) -> Result<Interval, NumberFault> {
+    match text.split_once("..") {
+        Some((low, high)) => between(interval(low)?, interval(high)?),
+        None => interval(text),
     }
 }
 
-/// The ends of what `operation` answers at two texts.
-fn applied(operation: u8, left: &[u8], right: &[u8]) -> Result<(i128, i128), NumberFault> {
-    let a = interval(left)?;
-    let b = interval(right)?;
-    ends(match operation {
-        b'+' => add(a, b),
-        b'-' => sub(a, b),
-        b'*' => mul(a, b),
-        b'/' => div(a, b),
-        _ => exponential(a, b),
-    })
-}
-
-#[test]
-fn reads_decimals(rt: HostRuntime) {
-    let table = [
-        (b"0".as_slice(), Ok((false, 0, 0))),
-        (b"8760", Ok((false, 8760, 0))),
-        (b"+.5e-1", Ok((false, 5, -2))),
-        (b"-1.50E+2", Ok((true, 150, 0))),
-        (b"5.", Ok((false, 5, 0))),
-        (b"-0", Ok((true, 0, 0))),
-        (b"1e-20", Ok((false, 1, -20))),
-        (b"1e-99", Ok((false, 1, -99))),
-        (b"0e99", Ok((false, 0, 99))),
-        (b"1e0006", Ok((false, 1, 6))),
-        (b"1000000", Ok((false, 1_000_000, 0))),
-        (b"0.00001e11", Ok((false, 1, 6))),
-        (
-            b".123456789012345678901234567890123456e-99",
-            Ok((false, 123_456_789_012_345_678_901_234_567_890_123_456, -135)),
-        ),
-        (b"", Err(NumberFault::NotDecimal)),
-        (b".", Err(NumberFault::NotDecimal)),
-        (b"+", Err(NumberFault::NotDecimal)),
-        (b"-e1", Err(NumberFault::NotDecimal)),
-        (b"1e", Err(NumberFault::NotDecimal)),
-        (b"1e+", Err(NumberFault::NotDecimal)),
-        (b"1.2.3", Err(NumberFault::NotDecimal)),
-        (b"1e2.", Err(NumberFault::NotDecimal)),
-        (b"1e10000", Err(NumberFault::NotDecimal)),
-        (b"--1", Err(NumberFault::NotDecimal)),
-        (b" 1", Err(NumberFault::NotDecimal)),
-        (b"1 ", Err(NumberFault::NotDecimal)),
-        (b"1e5e5", Err(NumberFault::NotDecimal)),
-        (b"0x10", Err(NumberFault::NotDecimal)),
-        (
-            b".1234567890123456789012345678901234567",
-            Err(NumberFault::TooManyDigits),
-        ),
-        (
-            b"0000000000000000000000000000000000000",
-            Err(NumberFault::TooManyDigits),
-        ),
-        (b"1e100", Err(NumberFault::TooManyDigits)),
-        (b"0e-100", Err(NumberFault::TooManyDigits)),
-        (b"1e9999", Err(NumberFault::TooManyDigits)),
-        (b"1e99", Err(NumberFault::TooLarge)),
-        (b"1e7", Err(NumberFault::TooLarge)),
-        (b"-1000000.000000000001", Err(NumberFault::TooLarge)),
-    ];
-    for (text, want) in table {
-        assert_eq!(rt; parts(text), want, "at {text:?}");
+/// The interval from the one to the other.
+fn between(low: Interval, high: Interval) -> Result<Interval, NumberFault> {
+    if low.lo <= high.hi {
+        Ok(Interval {
+            lo: low.lo,
+            hi: high.hi,
+        })
+    } else {
+        Err(NumberFault::Negative)
     }
 }
 
-#[test]
-fn computes_intervals(rt: HostRuntime) {
-    let million = 1_000_000_000_000_000_000;
-    let table = [
-        (b'+', b"1e-20".as_slice(), b"0".as_slice(), Ok((0, 1))),
-        (
-            b'+',
-            b"-1e-20",
-            b"0.25",
-            Ok((249_999_999_999, 250_000_000_000)),
-        ),
-        (b'+', b"999999", b"1", Ok((million, million))),
-        (b'+', b"1e6", b"1e-12", Err(NumberFault::TooLarge)),
-        (b'+', b"-1e6", b"-1e-99", Err(NumberFault::TooLarge)),
-        (
-            b'-',
-            b"0.5",
-            b"1e-20",
-            Ok((499_999_999_999, 500_000_000_000)),
-        ),
-        (b'-', b"-1e6", b"1e-12", Err(NumberFault::TooLarge)),
-        (
-            b'*',
-            b"-0.5",
-            b"3",
-            Ok((-1_500_000_000_000, -1_500_000_000_000)),
-        ),
-        (b'*', b"1e-12", b"0.5", Ok((0, 1))),
-        (b'*', b"-1e-12", b"0.5", Ok((-1, 0))),
-        (b'*', b"1000", b"1000", Ok((million, million))),
-        (b'*', b"1000", b"1000.000000001", Err(NumberFault::TooLarge)),
-        (b'/', b"1", b"3", Ok((333_333_333_333, 333_333_333_334))),
-        (b'/', b"1", b"-3", Ok((-333_333_333_334, -333_333_333_333))),
-        (b'/', b"-1", b"-3", Ok((333_333_333_333, 333_333_333_334))),
-        (b'/', b"1", b"0", Err(NumberFault::ZeroDivisor)),
-        (b'/', b"1", b"1e-20", Err(NumberFault::ZeroDivisor)),
-        (b'/', b"1", b"-1e-20", Err(NumberFault::ZeroDivisor)),
-        (b'/', b"1", b"1e-6", Ok((million, million))),
-        (b'/', b"2", b"1e-6", Err(NumberFault::TooLarge)),
-        (b'e', b"0", b"8760", Ok((0, 0))),
-        (b'e', b"1e-6", b"0", Ok((0, 0))),
-        (b'e', b"1e-6", b"8760", Ok((8_721_742_990, 8_721_742_995))),
-        (
-            b'e',
-            b"1",
-            b"8760",
-            Ok((999_999_999_999, 1_000_000_000_000)),
-        ),
-        (b'e', b"-1e-20", b"8760", Ok((0, 0))),
-        (b'e', b"-1", b"8760", Err(NumberFault::Negative)),
-        (b'e', b"1", b"-8760", Err(NumberFault::Negative)),
-    ];
-    for (operation, left, right, want) in table {
-        assert_eq!(rt;
-            applied(operation, left, right),
-            want,
-            "at {operation}, {left:?} and {right:?}"
-        );
+/// What an operation answers that is not on 0 to 1 alone.
+fn applied(operation: &str, a: Interval, b: Interval) -> Result<Interval, NumberFault> {
+    match operation {
+        "+" => add(a, b),
+        "-" => sub(a, b),
+        "*" => mul(a, b),
+        "/" => div(a, b),
+        "exponential" => exponential(a, b),
+        "neg" => Ok(neg(a)),
+        _ => Err(NumberFault::NotDecimal),
     }
-    let third = Interval {
-        lo: 333_333_333_333,
-        hi: 333_333_333_334,
-    };
-    let three = interval_of(Decimal::from_whole(3));
-    assert_eq!(rt;
-        ends(mul(third, three)),
-        Ok((999_999_999_999, 1_000_000_000_002))
-    );
-    assert_eq!(rt;
-        ends(Ok(neg(third))),
-        Ok((-333_333_333_334, -333_333_333_333))
-    );
 }
 
-#[test]
-fn computes_within_one(rt: HostRuntime) {
-    let third = Interval {
-        lo: 333_333_333_333,
-        hi: 333_333_333_334,
-    };
-    let wide = Interval {
-        lo: -5,
-        hi: 1_000_000_000_002,
-    };
-    let most = Interval {
-        lo: 999_999_999_999,
-        hi: 1_000_000_000_000,
-    };
-    assert_eq!(rt; ends(Ok(clamp_unit(wide))), Ok((0, 1_000_000_000_000)));
-    assert_eq!(rt;
-        ends(Ok(clamp_unit(third))),
-        Ok((333_333_333_333, 333_333_333_334))
-    );
-    assert_eq!(rt;
-        ends(Ok(times_in_unit(third, third))),
-        Ok((111_111_111_110, 111_111_111_112))
-    );
-    assert_eq!(rt;
-        ends(Ok(add_in_unit(third, third))),
-        Ok((666_666_666_666, 666_666_666_668))
-    );
-    assert_eq!(rt;
-        ends(Ok(add_in_unit(third, most))),
-        Ok((1_000_000_000_000, 1_000_000_000_000))
-    );
-    assert_eq!(rt;
-        ends(Ok(complement(third))),
-        Ok((666_666_666_666, 666_666_666_667))
-    );
+/// Whether the interval is within 0 and 1.
+fn is_in_unit(a: Interval) -> bool
+    ensures { OnTrue result (IsInUnit a) }
+{
+    0 <= a.lo && a.hi <= i128::from(UNITS)
 }
 
-#[test]
-fn prints_units(rt: HostRuntime) {
-    assert_eq!(rt; print_units(0).as_str(), "0.000000000000");
-    assert_eq!(rt; print_units(-1).as_str(), "-0.000000000001");
-    assert_eq!(rt; print_units(8_721_742_990).as_str(), "0.008721742990");
-    assert_eq!(rt;
-        print_units(-12_345_000_000_000_010).as_str(),
-        "-12345.000000000010"
-    );
-    assert_eq!(rt;
-        print_units(1_000_000_000_000_000_000).as_str(),
-        "1000000.000000000000"
-    );
-    assert_eq!(rt;
-        print_units(-1_000_000_000_000_000_000).as_str(),
-        "-1000000.000000000000"
-    );
+/// What an operation on 0 to 1 answers; that on any other interval is told as it stands.
+fn applied_in_unit(operation: &str, a: Interval, b: Interval) -> Interval {
+    if operation == "clamp" && a.lo <= i128::from(UNITS) && 0 <= a.hi {
+        return clamp_unit(a);
+    }
+    if !is_in_unit(a) || !is_in_unit(b) {
+        return a;
+    }
+    match operation {
+        "times" => times_in_unit(a, b),
+        "plus" => add_in_unit(a, b),
+        "complement" => complement(a),
+        _ => a,
+    }
+}
+
+/// What the operation between two texts answers.
+fn answer(left: &str, operation: &str, right: &str) -> Result<Interval, NumberFault> {
+    let a = operand(left)?;
+    let b = operand(right)?;
+    match operation {
+        "clamp" | "times" | "plus" | "complement" => Ok(applied_in_unit(operation, a, b)),
+        _ => applied(operation, a, b),
+    }
+}
+
+/// What a call answers: `read DECIMAL`, or `LEFT OPERATION RIGHT`, where one operand is enough for some.
+pub fn put_answer(out: &mut String, call: &str) {
+    if let Some(text) = call.strip_prefix("read ") {
+        match read_decimal(text.as_bytes()) {
+            Ok(decimal) => put_decimal(out, decimal),
+            Err(fault) => put_fault(out, fault),
+        }
+        return;
+    }
+    let (left, rest) = call.split_once(' ').unwrap_or((call, ""));
+    let (operation, right) = rest.split_once(' ').unwrap_or((rest, "0"));
+    if left == "print" {
+        put_printed(out, operation.parse::<i128>().unwrap_or(0));
+    } else {
+        put_ends(out, answer(left, operation, right));
+    }
+}
+
+/// Units as they are printed.
+fn put_printed(out: &mut String, units: i128) {
+    if units.unsigned_abs() <= MAX_END {
+        put(out, print_units(units).as_str());
+    }
 }

@@ -1,229 +1,114 @@
-ghost use Rattle.std.specs.Prelude.{◌<◌, ◌≤◌, ◌^◌, IsTrue, length};
+ghost use Rattle.std.specs.Prelude.{◌<◌, ◌≤◌, IsTrue};
 
-use psa_ports::{Failed, Folder, MemoryFolder, MemorySink, StdFolder, StdSink, put};
-use psa_text::{Items, OutOfMemory, Text};
+use crate::lines::{put, put_number};
+use psa_ports::{Folder, MemoryFolder, MemorySink, put as put_all};
+use psa_text::{Items, Text};
 use std::alloc::Global;
-use std::io;
-use std::io::Write;
-use std::test::Fail;
 
-// Two of the files have one name.
-const FILES: [(&str, &[u8]); 4] = [
-    ("empty", b""),
-    ("model", b"abcdefg"),
-    ("model", b"another"),
-    ("other", b"xyz"),
-];
-
-fn folder_of(alloc: Global, piece: usize, failing: &[u64]) -> Result<MemoryFolder, OutOfMemory>
-    requires { 0 < piece }
-{
-    let mut texts = Items::new(alloc);
-    for (name, bytes) in FILES {
-        texts.push((
-            Text::from_str(alloc, name)?,
-            Items::from_slice(alloc, bytes)?,
-        ))?;
+/// The numbers between commas; none for `-`.
+fn numbers_of(alloc: Global, text: &str) -> Items<u64> {
+    let mut numbers = Items::new(alloc);
+    for word in text.split(',') {
+        if let Ok(number) = word.parse::<u64>() {
+            let _left_out = numbers.push(number);
+        }
     }
-    Ok(MemoryFolder::new(texts, piece, Items::from_slice(alloc, failing)?))
+    numbers
 }
 
-// Opens the file and reads it to its end, past reads that fail; None where it can't be opened.
-fn gather<F: Folder>(
-    alloc: Global,
-    folder: &mut F,
-    name: &str,
-    room: usize,
-) -> Result<Option<Vec<u8>>, OutOfMemory>
+/// The number in a text, at least 1.
+fn from_one(text: &str) -> usize
+    ensures { 0 < result }
+{
+    text.parse::<usize>().unwrap_or(1).max(1)
+}
+
+/// Adds a file to those of a folder.
+fn add(alloc: Global, files: &mut Items<(Text, Items<u8>)>, name: &str, bytes: &[u8]) {
+    if let (Ok(name), Ok(bytes)) = (Text::from_str(alloc, name), Items::from_slice(alloc, bytes)) {
+        let _left_out = files.push((name, bytes));
+    }
+}
+
+/// A folder of four files, two of which have one name.
+fn folder_of(alloc: Global, piece: usize, failing: Items<u64>) -> MemoryFolder
+    requires { 0 < piece }
+{
+    let mut files = Items::new(alloc);
+    add(alloc, &mut files, "empty", b"");
+    add(alloc, &mut files, "model", b"abcdefg");
+    add(alloc, &mut files, "model", b"another");
+    add(alloc, &mut files, "other", b"xyz");
+    MemoryFolder::new(files, piece, failing)
+}
+
+/// Appends the opened file, read to its end, past reads that fail.
+fn put_rest<F: Folder>(out: &mut String, folder: &mut F, room: usize)
+    requires least { 0 < room }
+    requires most { room ≤ 64 }
+{
+    let mut buf = [0u8; 64];
+    for _ in 0..100 {
+        match folder.read(&mut buf[..room]) {
+            Ok(0) => break,
+            Ok(count) => put(out, str::from_utf8(buf.split_at(count).0).unwrap_or("?")),
+            Err(_) => {}
+        }
+    }
+}
+
+/// Opens a file and appends its bytes between quotes, or `none`.
+fn put_file<F: Folder>(out: &mut String, folder: &mut F, name: &str, room: usize)
     requires allowed { IsTrue (F.allows folder.old name.now) }
     requires least { 0 < room }
     requires most { room ≤ 64 }
 {
-    let mut bytes = Vec::new(alloc);
-    let mut buf = [0u8; 64];
     if folder.open(name).is_err() {
-        return Ok(None);
+        put(out, "none");
+        return;
     }
-    for _ in 0..100 {
-        match folder.read(&mut buf[..room]) {
-            Ok(0) => break,
-            Ok(count) => bytes.extend_from_slice(buf.split_at(count).0)?,
-            Err(_) => {}
-        }
-    }
-    Ok(Some(bytes))
+    put(out, "'");
+    put_rest(out, folder, room);
+    put(out, "'");
 }
 
-// The files above, in every way that a folder in memory can be told to give them.
-#[test]
-fn folder_in_memory(rt: HostRuntime) -> Result<(), Fail> {
-    let (model, other): (&[u8], &[u8]) = (b"abcdefg", b"xyz");
-    let (none, first, more): (&[u64], &[u64], &[u64]) = (&[], &[0], &[1, 3, 9]);
-    // Name, piece, room, and numbers of the calls that fail; then the bytes, and the counts of
-    // faults, opens and reads.
-    for (name, piece, room, failing, wanted, counts) in [
-        ("model", 1, 64, none, Some(model), (0, 1, 8)),
-        ("model", 2, 64, none, Some(model), (0, 1, 5)),
-        ("model", 64, 64, none, Some(model), (0, 1, 2)),
-        ("model", 64, 2, none, Some(model), (0, 1, 5)),
-        ("model", 2, 64, more, Some(model), (2, 1, 7)),
-        ("other", 64, 64, none, Some(other), (0, 1, 2)),
-        ("empty", 64, 64, none, Some(&[]), (0, 1, 1)),
-        ("mode", 64, 64, none, None, (1, 1, 0)),
-        ("model", 64, 64, first, None, (1, 1, 0)),
-    ] {
-        assert!(rt; piece > 0 && room > 0 && room <= 64);
-        let mut folder = folder_of(rt.alloc(), piece, failing)?;
-        let bytes = gather(rt.alloc(), &mut folder, name, room)?;
-        match (bytes, wanted) {
-            (Some(bytes), Some(wanted)) => assert_eq!(rt; bytes.as_slice(), wanted, "{name}"),
-            (bytes, wanted) => assert!(rt; bytes.is_none() && wanted.is_none(), "{name}"),
-        }
-        assert_eq!(rt;
-            (folder.faults(), folder.opens(), folder.reads()),
-            counts,
-            "{name} by {piece}"
-        );
-    }
-    Ok(())
-}
-
-// Two texts, one after the other, into sinks that take little, fail or are full.
-#[test]
-fn sink_in_memory(rt: HostRuntime) -> Result<(), Fail> {
-    let (none, first, second): (&[u64], &[u64], &[u64]) = (&[], &[0], &[1]);
-    // Room, piece, and numbers of the writes that fail; then what is written, and the faults.
-    for (room, piece, failing, written, faults) in [
-        (64, 1, none, "heading, rows", 0),
-        (64, 2, none, "heading, rows", 0),
-        (13, 64, none, "heading, rows", 0),
-        (64, 64, first, "rows", 1),
-        (64, 2, second, "herows", 1),
-        (12, 64, none, "heading, row", 1),
-        (0, 64, none, "", 2),
-    ] {
-        assert!(rt; piece > 0);
-        let mut sink = MemorySink::new(
-            rt.alloc(),
-            room,
-            piece,
-            Items::from_slice(rt.alloc(), failing)?,
-        )?;
-        let answers = [put(&mut sink, b"heading, "), put(&mut sink, b"rows")];
-        let failed = answers.iter().filter(|answer| answer.is_err()).count();
-        assert_eq!(rt;
-            sink.written(),
-            written.as_bytes(),
-            "room for {room} by {piece}"
-        );
-        assert_eq!(rt;
-            (sink.faults(), failed as u64),
-            (faults, faults),
-            "room for {room} by {piece}"
-        );
-    }
-    Ok(())
-}
-
-#[derive(Clone, Copy)]
-enum Fault {
-    Write,
-    Nothing,
-    Flush,
-}
-
-// A writer that fails in one way.
-#[derive(Drop)]
-struct Faulty {
-    fault: Fault,
-}
-
-impl Write for Faulty {
-    fn write(&mut self, buf: &[u8]) -> io::Result<usize> {
-        match self.fault {
-            Fault::Write => Err(io::Error::from(io::ErrorKind::BrokenPipe)),
-            Fault::Nothing => Ok(0),
-            Fault::Flush => Ok(buf.len()),
-        }
-    }
-
-    fn flush(&mut self) -> io::Result<()> {
-        match self.fault {
-            Fault::Flush => Err(io::Error::from(io::ErrorKind::BrokenPipe)),
-            _ => Ok(()),
-        }
+/// Appends numbers, each behind a blank.
+pub fn put_counts(out: &mut String, counts: [u64; 3]) {
+    for count in counts {
+        put(out, " ");
+        put_number(out, &count);
     }
 }
 
-#[test]
-fn std_writer(rt: HostRuntime) -> Result<(), Fail> {
-    let mut bytes = Vec::new(rt.alloc());
-    let mut sink = StdSink::new(&mut bytes);
-    assert_eq!(rt; put(&mut sink, b"heading, "), Ok(()));
-    assert_eq!(rt; put(&mut sink, b"rows"), Ok(()));
-    assert_eq!(rt; sink.faults(), 0);
-    assert_eq!(rt; bytes.as_slice(), b"heading, rows".as_slice());
-    for fault in [Fault::Write, Fault::Nothing, Fault::Flush] {
-        let mut sink = StdSink::new(Faulty { fault });
-        assert_eq!(rt; put(&mut sink, b""), Ok(()));
-        assert_eq!(rt; put(&mut sink, b"rows"), Err(Failed));
-        assert_eq!(rt; sink.faults(), 1);
-    }
-    Ok(())
+/// What a folder in memory gives of a file: `NAME PIECE ROOM FAILING`.
+pub fn put_gathered(alloc: Global, out: &mut String, call: &str) {
+    let (name, rest) = call.split_once(' ').unwrap_or((call, ""));
+    let (piece, rest) = rest.split_once(' ').unwrap_or((rest, ""));
+    let (room, failing) = rest.split_once(' ').unwrap_or((rest, ""));
+    let mut folder = folder_of(alloc, from_one(piece), numbers_of(alloc, failing));
+    put_file(out, &mut folder, name, from_one(room).min(64));
+    put_counts(out, [folder.faults(), folder.opens(), folder.reads()]);
 }
 
-// What a run asks of a new folder: that it may still be opened often.
-fn first_bytes<F: Folder>(folder: &mut F, name: &str, buf: &mut [u8]) -> Result<usize, Failed>
-    requires allowed { IsTrue (F.allows folder.old name.now) }
-    requires opens { F.opens folder.old ≤ 2 ^ 63 }
-    requires least { 0 < length buf.old }
-{
-    folder.open(name)?;
-    folder.read(buf)
+/// Writes two texts and appends what was written, the count of faults and how many of the two failed.
+fn put_written(out: &mut String, mut sink: MemorySink) {
+    let first = put_all(&mut sink, b"heading, ").is_err();
+    let second = put_all(&mut sink, b"rows").is_err();
+    put(out, "'");
+    put(out, str::from_utf8(sink.written()).unwrap_or("?"));
+    put(out, "' ");
+    put_number(out, &sink.faults());
+    put(out, " ");
+    put_number(out, &(u64::from(first) + u64::from(second)));
 }
 
-#[test]
-fn std_files(rt: HostRuntime) -> Result<(), Fail> {
-    // Name; the number of bytes in a first read, and the counts of faults, opens and reads.
-    for (name, wanted, counts) in [
-        ("/dev/zero", Ok(4), (0, 1, 1)),
-        ("/dev/null", Ok(0), (0, 1, 1)),
-        ("no/such/file", Err(Failed), (1, 1, 0)),
-        ("/", Err(Failed), (1, 1, 1)),
-    ] {
-        let mut folder = StdFolder::new(&rt);
-        let mut buf = [1u8; 4];
-        assert_eq!(rt; first_bytes(&mut folder, name, &mut buf), wanted, "{name}");
-        assert_eq!(rt;
-            (folder.faults(), folder.opens(), folder.reads()),
-            counts,
-            "{name}"
-        );
+/// What a sink in memory takes: `ROOM PIECE FAILING`.
+pub fn put_taken(alloc: Global, out: &mut String, call: &str) {
+    let (room, rest) = call.split_once(' ').unwrap_or((call, ""));
+    let (piece, failing) = rest.split_once(' ').unwrap_or((rest, ""));
+    let room = room.parse::<usize>().unwrap_or(0);
+    match MemorySink::new(alloc, room, from_one(piece), numbers_of(alloc, failing)) {
+        Ok(sink) => put_written(out, sink),
+        Err(_) => put(out, "no memory"),
     }
-    Ok(())
-}
-
-// One folder opens one file after another: what is read is the last one's, and nothing is open
-// behind a name that no file has.
-#[test]
-fn std_files_in_turn(rt: HostRuntime) -> Result<(), Fail> {
-    let mut folder = StdFolder::new(&rt);
-    // The name; what opening it answers, what one read then gives, and what is in the buffer of ones.
-    for (name, opened, count, bytes) in [
-        ("/dev/zero", Ok(()), Ok(4), [0u8; 4]),
-        ("/dev/null", Ok(()), Ok(0), [1u8; 4]),
-        ("/dev/zero", Ok(()), Ok(4), [0u8; 4]),
-        ("no/such/file", Err(Failed), Ok(0), [1u8; 4]),
-        ("/dev/zero", Ok(()), Ok(4), [0u8; 4]),
-    ] {
-        let mut buf = [1u8; 4];
-        assert_eq!(rt; folder.open(name), opened, "{name}");
-        assert_eq!(rt; folder.read(&mut buf), count, "{name}");
-        assert_eq!(rt; buf, bytes, "{name}");
-    }
-    assert_eq!(rt;
-        (folder.faults(), folder.opens(), folder.reads()),
-        (1, 5, 5)
-    );
-    Ok(())
 }

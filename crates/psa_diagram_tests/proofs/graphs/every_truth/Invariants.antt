@@ -1,5 +1,0 @@
-use Rattle.psa_nodes.specs.Nodes.{IsBounded}
-use Rattle.psa_diagram_tests.proofs.graphs.every_truth.Given as goal
-
-abbrev pub invariant-loop-truth : goal.invariant-loop-truth
-invariant-loop-truth g l = IsBounded l.table.nodes
