@@ -1,177 +1,166 @@
-use crate::fakes::{Devices, File, SOUND, joined, run, run_in_blocks};
-use crate::heads::{HEAD, TWO_SECTION};
-use crate::models::{NODES, TWO};
-use crate::quantities::TOTALS;
-use crate::rows::{Row, differences};
-use psa_engine::Status;
-use std::test::Fail;
+//! Files and sinks that fail.
+use crate::cases::put_if_wrong;
+use crate::lines::put;
+use crate::runs::{Devices, SOUND, found};
+use std::alloc::Global;
 
-static TWO_FILE: [File; 1] = [("two.xml", &[TWO])];
+/// Runs whose second call of the folder fails.
+#[rattlefmt::skip]
+pub const UNREAD: &str = r#"
+# a file that stands
+@ two.xml
+{two}
+$ two.xml => ReadFault
+! scram: cannot read two.xml
 
-const READ_FAULT: &[u8] = b"scram: cannot read two.xml\n";
+# a file that is missing
+@ one.xml
+{two}
+$ two.xml three.xml => ReadFault
+! scram: cannot read two.xml"#;
 
-const WRITE_FAULT: &[u8] = b"scram: cannot write\n";
+/// A run whose first line on standard error fails.
+#[rattlefmt::skip]
+pub const UNTOLD: &str = r#"
+# no words
+$  => BadWords, no file opened"#;
 
-/// One byte in each read and each write.
-#[test]
-fn single_bytes(rt: HostRuntime) -> Result<(), Fail> {
-    let devices = Devices {
-        read: 1,
-        write: 1,
-        ..SOUND
-    };
-    let told = differences(rt.alloc(), &TOTALS, &devices)?;
-    assert_eq!(rt; told.as_str(), "");
-    Ok(())
+/// Runs whose report goes through blocks.
+#[rattlefmt::skip]
+pub const IN_BLOCKS: &str = r#"
+# a report is whole after the run
+@ two.xml
+{two}
+$ two.xml => Done
+{report bdd ... minimal-cut-sets ... 20}
+top-event TwoTrains TopEvent
+- 2 PumpOne PumpTwo
+- 2 PumpOne ValveTwo
+- 2 ValveOne PumpTwo
+- 2 ValveOne ValveTwo
+count 4
+
+# and also where it ends early
+@ nl.xml
+{nodes}
+$ --node-limit 3 nl.xml => NodeLimit(2), nodes: 3
+! scram: node limit at target 2
+{report bdd ... minimal-cut-sets ... 20}
+top-event F g1
+- 1 a
+count 1"#;
+
+/// A run whose report goes through blocks, of which the first two writes fail.
+#[rattlefmt::skip]
+pub const UNWRITTEN_BLOCKS: &str = r#"
+# a block that cannot be passed on at the end is a failed write
+@ two.xml
+{two}
+$ two.xml => WriteFault
+! scram: cannot write"#;
+
+/// The report on the two trains.
+const REPORT: &str = "scram report
+algorithm bdd
+products minimal-cut-sets
+limit-order 20
+top-event TwoTrains TopEvent
+- 2 PumpOne PumpTwo
+- 2 PumpOne ValveTwo
+- 2 ValveOne PumpTwo
+- 2 ValveOne ValveTwo
+count 4
+";
+
+/// How often the files of the two trains are opened and read, by 64 bytes at once.
+const CALLS: u64 = 11;
+
+/// What a run leaves that could not write its report, but for the report.
+const UNWRITTEN: &str = "two.xml => WriteFault\n! scram: cannot write\n";
+
+/// What a run over the two trains leaves.
+fn found_of_two(alloc: Global, devices: &Devices) -> String {
+    found(alloc, "two.xml", "two.xml\n{two}", devices)
 }
 
-static UNREAD: [Row; 2] = [
-    Row {
-        words: &["two.xml"],
-        files: &[("two.xml", &[TWO])],
-        status: Status::ReadFault,
-        out: &[],
-        err: "scram: cannot read two.xml\n",
-    },
-    Row {
-        words: &["two.xml", "three.xml"],
-        files: &[("one.xml", &[TWO])],
-        status: Status::ReadFault,
-        out: &[],
-        err: "scram: cannot read two.xml\n",
-    },
-];
-
-static UNWRITTEN: [Row; 1] = [Row {
-    words: &["two.xml"],
-    files: &[("two.xml", &[TWO])],
-    status: Status::WriteFault,
-    out: &["s"],
-    err: "scram: cannot write\n",
-}];
-
-static UNTOLD: [Row; 1] = [Row {
-    words: &[],
-    files: &[],
-    status: Status::BadWords,
-    out: &[],
-    err: "",
-}];
-
-/// The second call of the folder fails, or the second write of one byte, or the first line on err.
-#[test]
-fn failing_devices(rt: HostRuntime) -> Result<(), Fail> {
-    let read = Devices {
-        failing_calls: &[1],
-        ..SOUND
-    };
-    let write = Devices {
-        write: 1,
-        failing_writes: &[1],
-        ..SOUND
-    };
-    let line = Devices {
-        failing_lines: &[0],
-        ..SOUND
-    };
-    assert_eq!(rt; differences(rt.alloc(), &UNREAD, &read)?.as_str(), "");
-    assert_eq!(rt; differences(rt.alloc(), &UNWRITTEN, &write)?.as_str(), "");
-    assert_eq!(rt; differences(rt.alloc(), &UNTOLD, &line)?.as_str(), "");
-    Ok(())
+/// Whether a run left its whole report and nothing else.
+pub fn is_done(found: &str) -> bool {
+    found.strip_prefix("two.xml => Done\n") == Some(REPORT)
 }
 
-/// Each call of the folder fails in turn, until a run is done.
-#[test]
-fn each_failing_call(rt: HostRuntime) -> Result<(), Fail> {
-    let report = joined(rt.alloc(), &[HEAD, TWO_SECTION])?;
-    let calls = TWO.len() / 64 + 3;
+/// What is left where each call of the folder fails in turn, in files read by 64 bytes, and not as it should be.
+pub fn wrong_calls(alloc: Global) -> String {
+    let mut wrong = String::new(alloc);
     for call in 0..64 {
         let devices = Devices {
             read: 64,
             failing_calls: &[call],
             ..SOUND
         };
-        let left = run(rt.alloc(), &["two.xml"], &TWO_FILE, &devices)?;
-        if call as usize >= calls {
-            assert_eq!(rt; left.status, Status::Done, "at {call}");
-            assert_eq!(rt; left.out.as_slice(), report.as_bytes());
-            assert_eq!(rt; left.err.len(), 0);
-        } else {
-            assert_eq!(rt; left.status, Status::ReadFault, "at {call}");
-            assert_eq!(rt; left.out.len(), 0);
-            assert_eq!(rt; left.err.as_slice(), READ_FAULT);
+        let found = found_of_two(alloc, &devices);
+        if call < CALLS {
+            let fault = "two.xml => ReadFault\n! scram: cannot read two.xml\n";
+            put_if_wrong(&mut wrong, fault, found.as_str());
+        } else if !is_done(found.as_str()) {
+            put(&mut wrong, found.as_str());
         }
     }
-    Ok(())
+    wrong
 }
 
-/// A sink has less room than the report takes.
-#[test]
-fn each_room(rt: HostRuntime) -> Result<(), Fail> {
-    let report = joined(rt.alloc(), &[HEAD, TWO_SECTION])?;
-    for room in 0..report.len() {
+/// What is left in a sink with less room than the report takes, and not as it should be.
+pub fn wrong_rooms(alloc: Global) -> String {
+    let mut wrong = String::new(alloc);
+    for room in 0..REPORT.len() {
         let devices = Devices {
             write: 1,
             room,
             ..SOUND
         };
-        let left = run(rt.alloc(), &["two.xml"], &TWO_FILE, &devices)?;
-        assert_eq!(rt; left.status, Status::WriteFault, "at {room}");
-        assert_eq!(rt; left.out.as_slice(), report.as_bytes().split_at(room).0);
-        assert_eq!(rt; left.err.as_slice(), WRITE_FAULT);
+        let found = found_of_two(alloc, &devices);
+        let part = REPORT.get(..room).unwrap_or("no part");
+        if found.as_str().strip_prefix(UNWRITTEN) != Some(part) {
+            put(&mut wrong, found.as_str());
+        }
     }
-    Ok(())
+    wrong
 }
 
-/// Each write of seven bytes fails in turn, until a run is done.
-#[test]
-fn each_failing_write(rt: HostRuntime) -> Result<(), Fail> {
-    let report = joined(rt.alloc(), &[HEAD, TWO_SECTION])?;
+/// What is left where each write of seven bytes fails in turn, until a run is done, and not as it should be.
+pub fn wrong_writes(alloc: Global) -> String {
+    let mut wrong = String::new(alloc);
     for write in 0..200 {
         let devices = Devices {
             write: 7,
             failing_writes: &[write],
             ..SOUND
         };
-        let left = run(rt.alloc(), &["two.xml"], &TWO_FILE, &devices)?;
-        if left.status == Status::Done {
-            assert_eq!(rt; left.out.as_slice(), report.as_bytes());
-            assert!(rt; write as usize * 7 > report.len());
-            return Ok(());
+        let found = found_of_two(alloc, &devices);
+        if is_done(found.as_str()) {
+            if write * 7 <= REPORT.len() as u64 {
+                put(&mut wrong, "done too early");
+            }
+            return wrong;
         }
-        assert_eq!(rt; left.status, Status::WriteFault, "at {write}");
-        assert!(rt;
-            report.as_bytes().starts_with(left.out.as_slice()),
-            "at {write}"
-        );
-        assert_eq!(rt; left.err.as_slice(), WRITE_FAULT);
+        let part = found.as_str().strip_prefix(UNWRITTEN).unwrap_or("no part");
+        if !REPORT.starts_with(part) {
+            put(&mut wrong, found.as_str());
+        }
     }
-    panic!(rt; "no run was done")
+    put(&mut wrong, "no run was done");
+    wrong
 }
 
-/// Reports that go through blocks are whole after the run, also where it ends early, and a block that cannot be
-/// passed on at the end is a failed write.
-#[test]
-fn blocks(rt: HostRuntime) -> Result<(), Fail> {
-    let report = joined(rt.alloc(), &[HEAD, TWO_SECTION])?;
-    let part = joined(rt.alloc(), &[HEAD, "top-event F g1\n- 1 a\ncount 1\n"])?;
-    let nodes: [File; 1] = [("nl.xml", &[NODES])];
-    let words = ["--node-limit", "3", "nl.xml"];
-    let failing = Devices {
-        failing_writes: &[0, 1],
+/// What is left where the second write of one byte fails, and not as it should be.
+pub fn wrong_second_write(alloc: Global) -> String {
+    let mut wrong = String::new(alloc);
+    let devices = Devices {
+        write: 1,
+        failing_writes: &[1],
         ..SOUND
     };
-    for size in [1, 16, 1000] {
-        let left = run_in_blocks(rt.alloc(), &["two.xml"], &TWO_FILE, &SOUND, size)?;
-        assert_eq!(rt; left.status, Status::Done, "in {size}");
-        assert_eq!(rt; left.out.as_slice(), report.as_bytes());
-        let left = run_in_blocks(rt.alloc(), &words, &nodes, &SOUND, size)?;
-        assert_eq!(rt; left.status, Status::NodeLimit(2), "in {size}");
-        assert_eq!(rt; left.out.as_slice(), part.as_bytes());
-        let left = run_in_blocks(rt.alloc(), &["two.xml"], &TWO_FILE, &failing, size)?;
-        assert_eq!(rt; left.status, Status::WriteFault, "in {size}");
-        assert_eq!(rt; left.out.len(), 0);
-        assert_eq!(rt; left.err.as_slice(), WRITE_FAULT);
-    }
-    Ok(())
+    let found = found_of_two(alloc, &devices);
+    let wanted = "two.xml => WriteFault\n! scram: cannot write\ns";
+    put_if_wrong(&mut wrong, wanted, found.as_str());
+    wrong
 }

@@ -1,29 +1,33 @@
-//! Tests of the targets of event trees and of whole runs of the program, over files and sinks in memory.
+//! Tests of whole runs of the program, over files and sinks in memory.
 #![tactic(auto)]
 
 #[cfg(test)]
-mod cut_texts;
+mod cases;
+#[cfg(test)]
+mod cut;
 #[cfg(test)]
 mod devices;
 #[cfg(test)]
-mod fakes;
-#[cfg(test)]
-mod generated;
-#[cfg(test)]
-mod heads;
+mod formulas;
 #[cfg(test)]
 mod limits;
 #[cfg(test)]
+mod lines;
+#[cfg(test)]
 mod models;
 #[cfg(test)]
-mod products;
+mod nodes;
 #[cfg(test)]
 mod quantities;
 #[cfg(test)]
 mod refusals;
 #[cfg(test)]
-mod rows;
+mod runs;
 #[cfg(test)]
 mod sample;
+#[cfg(test)]
+mod tests;
+#[cfg(test)]
+mod texts;
 #[cfg(test)]
 mod trees;

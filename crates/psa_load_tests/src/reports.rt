@@ -1,4 +1,5 @@
-use crate::loading::{loaded, settings_for};
+use crate::lines::put;
+use crate::loading::{load_row, settings_for};
 use psa_model::{FaultKind, Input, Literal, ModelFault, Product};
 use psa_number::Interval;
 use psa_outcome::Loaded;
@@ -7,7 +8,6 @@ use psa_products::Totals;
 use psa_report::{write_fault, write_head, write_product, write_target, write_totals};
 use psa_text::{Items, OutOfMemory, Text};
 use std::alloc::Global;
-use std::process::Abort;
 use std::test::*;
 
 /// A group of three members, a private event, and an event tree.
@@ -144,6 +144,18 @@ const FAULTS: [(FaultKind, &str, &str); 23] = [
     (FaultKind::NotProbability, "F.C.a", "not a probability F.C.a"),
 ];
 
+/// Products as literals, ranks, each with whether the event occurs, and their bounds.
+#[rattlefmt::skip]
+const PRODUCTS: [(&[(u32, bool)], Option<Interval>); 7] = [
+    (&[], None),
+    (&[], Some(Interval { lo: 1_000_000_000_000, hi: 1_000_000_000_000 })),
+    (&[(0, true)], None),
+    (&[(1, false), (2, true), (3, false)], None),
+    (&[(4, true), (5, true), (6, false), (7, true)], Some(Interval { lo: 1, hi: 12_345_678_901 })),
+    (&[(8, false)], None),
+    (&[(0, true), (4_000_000_000, false)], None),
+];
+
 /// The product of literals: ranks, each with whether the event occurs.
 fn product_of(literals: &[(u32, bool)]) -> Product {
     let mut product = Product::new();
@@ -161,70 +173,52 @@ fn sink(alloc: Global) -> Result<MemorySink, OutOfMemory> {
     MemorySink::new(alloc, 10_000, 7, Items::new(alloc))
 }
 
-/// The heads of reports by all settings.
-fn push_heads(rt: &impl Abort, out: &mut MemorySink) {
+/// Writes the heads of reports by all settings. What is refused is left out, here and below, and what is written then
+/// differs from what is wanted.
+fn put_heads(out: &mut MemorySink) {
     for words in SETTINGS {
         let settings = settings_for(Input::Sample(2), words);
-        write_head(out, &settings).expect(rt, "room");
+        let _left_out = write_head(out, &settings);
     }
 }
 
-/// The lines of the targets.
-fn push_targets(rt: &impl Abort, out: &mut MemorySink, loaded: &Loaded) {
+/// Writes the lines of the targets.
+fn put_targets(out: &mut MemorySink, loaded: &Loaded) {
     for target in loaded.targets.as_slice() {
-        write_target(out, &loaded.expanded.model, target).expect(rt, "room");
+        let _left_out = write_target(out, &loaded.expanded.model, target);
     }
 }
 
-/// The lines of products of the first target.
-fn push_products(rt: &impl Abort, out: &mut MemorySink, loaded: &Loaded) {
-    let one = Interval {
-        lo: 1_000_000_000_000,
-        hi: 1_000_000_000_000,
-    };
-    let some = Interval {
-        lo: 1,
-        hi: 12_345_678_901,
-    };
-    let rows: [(&[(u32, bool)], Option<Interval>); 7] = [
-        (&[], None),
-        (&[], Some(one)),
-        (&[(0, true)], None),
-        (&[(1, false), (2, true), (3, false)], None),
-        (&[(4, true), (5, true), (6, false), (7, true)], Some(some)),
-        (&[(8, false)], None),
-        (&[(0, true), (4_000_000_000, false)], None),
-    ];
-    let ranks = loaded.ranks.get(0).expect(rt, "a target");
-    for (literals, bound) in rows {
-        let product = product_of(literals);
-        write_product(out, &loaded.expanded, ranks, &product, bound).expect(rt, "room");
-    }
-}
-
-/// The lines of the model's targets and products, by words.
-fn push_model(rt: &impl Abort, alloc: Global, out: &mut MemorySink, words: &str) {
-    match loaded(alloc, words, MODEL) {
-        Ok(Ok(loaded)) => {
-            push_targets(rt, out, &loaded);
-            push_products(rt, out, &loaded);
+/// Writes the lines of products of the first target.
+fn put_products(out: &mut MemorySink, loaded: &Loaded) {
+    if let Some(ranks) = loaded.ranks.get(0) {
+        for (literals, bound) in PRODUCTS {
+            let product = product_of(literals);
+            let _left_out = write_product(out, &loaded.expanded, ranks, &product, bound);
         }
-        _ => assert!(rt; false, "no model"),
     }
 }
 
-/// The totals by all settings.
-fn push_totals(rt: &impl Abort, out: &mut MemorySink, totals: &Totals) {
+/// Writes the lines of the model's targets and products, by words.
+fn put_model(alloc: Global, out: &mut MemorySink, words: &str) {
+    if let Ok(loaded) = load_row(alloc, words, MODEL) {
+        put_targets(out, &loaded);
+        put_products(out, &loaded);
+    }
+}
+
+/// Writes the totals by all settings.
+fn put_totals(out: &mut MemorySink, totals: &Totals) {
     for words in SETTINGS {
         let settings = settings_for(Input::Sample(2), words);
-        write_totals(out, &settings, totals).expect(rt, "room");
+        let _left_out = write_totals(out, &settings, totals);
     }
 }
 
-/// The totals of no product, of two, and of three.
-fn push_sums(rt: &impl Abort, out: &mut MemorySink) {
+/// Writes the totals of no product, of two, and of three.
+fn put_sums(out: &mut MemorySink) {
     let mut totals = Totals::new();
-    push_totals(rt, out, &totals);
+    put_totals(out, &totals);
     totals.take(Interval {
         lo: 500_000_000_000,
         hi: 500_000_000_000,
@@ -233,50 +227,54 @@ fn push_sums(rt: &impl Abort, out: &mut MemorySink) {
         lo: 250_000_000_000,
         hi: 250_000_000_000,
     });
-    push_totals(rt, out, &totals);
+    put_totals(out, &totals);
     totals.take(Interval {
         lo: 500_000_000_000,
         hi: 1_000_000_000_000,
     });
-    push_totals(rt, out, &totals);
+    put_totals(out, &totals);
 }
 
 #[test]
-fn heads_are_written(rt: HostRuntime) {
-    let mut out = sink(rt.alloc()).expect(&rt, "memory");
-    push_heads(&rt, &mut out);
-    assert_eq!(rt; out.written(), HEADS.as_bytes());
+fn reports_are_written(rt: HostRuntime) {
+    let mut heads = sink(rt.alloc()).expect(&rt, "memory");
+    put_heads(&mut heads);
+    assert_eq!(rt; heads.written(), HEADS.as_bytes());
+    let mut sections = sink(rt.alloc()).expect(&rt, "memory");
+    put_model(rt.alloc(), &mut sections, "ccf");
+    put_model(rt.alloc(), &mut sections, "");
+    put_sums(&mut sections);
+    assert_eq!(rt; sections.written(), SECTIONS.as_bytes());
 }
 
-#[test]
-fn sections_are_written(rt: HostRuntime) {
-    let mut out = sink(rt.alloc()).expect(&rt, "memory");
-    push_model(&rt, rt.alloc(), &mut out, "ccf");
-    push_model(&rt, rt.alloc(), &mut out, "");
-    push_sums(&rt, &mut out);
-    assert_eq!(rt; out.written(), SECTIONS.as_bytes());
-}
-
-/// The line of a fault.
-fn fault_line(rt: &impl Abort, alloc: Global, kind: FaultKind, name: &str) -> MemorySink {
-    let file = Text::from_str(alloc, "dir/my file.xml").expect(rt, "memory");
+/// Writes the line of a fault.
+fn put_fault(
+    alloc: Global,
+    err: &mut MemorySink,
+    kind: FaultKind,
+    name: &str,
+) -> Result<(), OutOfMemory> {
+    let file = Text::from_str(alloc, "dir/my file.xml")?;
+    let name = Text::from_str(alloc, name)?;
     let fault = ModelFault {
         kind,
         file: 3,
         line: 4_000_000_000,
-        name: Text::from_str(alloc, name).expect(rt, "memory"),
+        name,
     };
-    let mut err = sink(alloc).expect(rt, "memory");
-    write_fault(&mut err, &fault, &file).expect(rt, "room");
-    err
+    let _left_out = write_fault(err, &fault, &file);
+    Ok(())
 }
 
 #[test]
 fn fault_lines_are_written(rt: HostRuntime) {
+    let mut err = sink(rt.alloc()).expect(&rt, "memory");
+    let mut wanted = String::new(rt.alloc());
     for (kind, name, told) in FAULTS {
-        let err = fault_line(&rt, rt.alloc(), kind, name);
-        let line = format!(in rt.alloc(); "scram: dir/my file.xml:4000000000: {told}\n");
-        let line = line.expect(&rt, "memory");
-        assert_eq!(rt; err.written(), line.as_bytes());
+        let _left_out = put_fault(rt.alloc(), &mut err, kind, name);
+        put(&mut wanted, "scram: dir/my file.xml:4000000000: ");
+        put(&mut wanted, told);
+        put(&mut wanted, "\n");
     }
+    assert_eq!(rt; err.written(), wanted.as_bytes());
 }

@@ -1,6 +1,6 @@
 //! Conditional instructions by their tests.
+use crate::lines::put;
 use crate::loading::targets;
-use psa_text::OutOfMemory;
 use std::alloc::Global;
 use std::test::*;
 
@@ -27,16 +27,19 @@ const BACK: &str = "\
 <collect-formula><constant value='true'/></collect-formula><collect-formula><constant value='true'/></collect-formula></if></define-rule>";
 
 /// The targets where the rule of the sequence has this test.
-fn targets_by(alloc: Global, test: &str) -> Result<String, OutOfMemory> {
-    let text = format!(in alloc; "{}{}{}", FRONT, test, BACK)?;
-    targets(alloc, text.as_str())
+fn targets_by(alloc: Global, test: &str) -> String {
+    let mut row = String::new(alloc);
+    put(&mut row, FRONT);
+    put(&mut row, test);
+    put(&mut row, BACK);
+    targets(alloc, row.as_str())
 }
 
 #[test]
 fn tests_choose_instructions(rt: HostRuntime) {
     for row in TESTS.lines() {
         let (test, told) = row.split_once(" => ").expect(&rt, "an answer");
-        let found = targets_by(rt.alloc(), test).expect(&rt, "memory");
+        let found = targets_by(rt.alloc(), test);
         assert_eq!(rt; found.as_str(), told, "{test}");
     }
 }

@@ -64,7 +64,7 @@ fn events_have_their_values(rt: HostRuntime) {
     for row in VALUES.lines() {
         let (words, rest) = row.split_once(": ").expect(&rt, "words");
         let (definitions, told) = rest.split_once(" => ").expect(&rt, "an answer");
-        let found = events(rt.alloc(), words, definitions).expect(&rt, "memory");
+        let found = events(rt.alloc(), words, definitions);
         assert_eq!(rt; found.as_str().trim_end(), told, "{definitions}");
     }
 }

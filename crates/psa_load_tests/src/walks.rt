@@ -58,7 +58,7 @@ fn paths_arrive(rt: HostRuntime) {
     for rows in [WALKS, LIMITS] {
         for row in rows.lines() {
             let (definitions, told) = row.split_once(" => ").expect(&rt, "an answer");
-            let found = targets(rt.alloc(), definitions).expect(&rt, "memory");
+            let found = targets(rt.alloc(), definitions);
             assert_eq!(rt; found.as_str(), told, "{definitions}");
         }
     }
