@@ -24,11 +24,3 @@ mod states;
 mod table;
 
 pub use found::find_names;
-pub use grouped::{Grouped, group_names};
-pub use lookup::{Looked, look_up};
-pub use names::{Names, find_event};
-pub use numbers::Numbered;
-pub use pass::Pass;
-pub use placed::Placed;
-pub use references::follow_all;
-pub use table::{Built, Table, build_table};
