@@ -1,0 +1,7 @@
+//! Which events carry the rare-event sum: for each event of a target, in how many of the kept products it
+//! stands, and the sum of their bounds.
+#![tactic(auto)]
+
+mod section;
+
+pub use section::write_shares;
