@@ -80,63 +80,79 @@ pub data Reading : Type 0 where
 
 -- ---- what is picked out of what the children say
 
+-- a reading as a formula, where it is one
 abbrev pub formula_of : Reading → Option DraftFormula
 formula_of (a_formula one) = Some one
 formula_of _ = None
 
+-- a reading as an expression, where it is one
 abbrev pub expression_of : Reading → Option DraftExpression
 expression_of (an_expression one) = Some one
 expression_of _ = None
 
+-- a reading as a test, where it is one
 abbrev pub test_of : Reading → Option DraftTest
 test_of (a_test one) = Some one
 test_of _ = None
 
+-- a reading as an instruction, where it is one
 abbrev pub instruction_of : Reading → Option DraftInstruction
 instruction_of (an_instruction one) = Some one
 instruction_of _ = None
 
+-- a reading as the end of a branch, where it is one
 abbrev pub end_of : Reading → Option DraftBranchEnd
 end_of (an_end one) = Some one
 end_of _ = None
 
+-- a reading as a path of a fork, where it is one
 abbrev pub path_of : Reading → Option DraftForkPath
 path_of (a_path one) = Some one
 path_of _ = None
 
+-- a reading as an initial state, where it is one
 abbrev pub initial_state_of : Reading → Option DraftBranch
 initial_state_of (an_initial_state one) = Some one
 initial_state_of _ = None
 
+-- a reading as a link to an event tree, where it is one
 abbrev pub link_of : Reading → Option DraftReference
 link_of (a_link one) = Some one
 link_of _ = None
 
+-- the members that a reading lists
 abbrev pub members_of : Reading → List DraftReference
 members_of (some_members all) = all
 members_of _ = []
 
+-- a reading as a group's distribution, where it is one
 abbrev pub distribution_of : Reading → Option DraftExpression
 distribution_of (a_distribution one) = Some one
 distribution_of _ = None
 
+-- the factors that a reading lists
 abbrev pub factors_of : Reading → List DraftFactor
 factors_of (some_factors all) = all
 factors_of _ = []
 
+-- the definitions that a reading holds
 abbrev pub definitions_of : Reading → List DraftDefinition
 definitions_of (some_definitions all) = all
 definitions_of _ = []
 
+-- the formulas among the readings of an element's children, in order
 abbrev pub formulas_in : List Reading → List DraftFormula
 formulas_in inside = filter_map formula_of inside
 
+-- the expressions among them
 abbrev pub expressions_in : List Reading → List DraftExpression
 expressions_in inside = filter_map expression_of inside
 
+-- the instructions among them
 abbrev pub instructions_in : List Reading → List DraftInstruction
 instructions_in inside = filter_map instruction_of inside
 
+-- all definitions in them
 abbrev pub definitions_in : List Reading → List DraftDefinition
 definitions_in inside = flat_map definitions_of inside
 
@@ -144,14 +160,17 @@ definitions_in inside = flat_map definitions_of inside
 abbrev pub first_in : {A : Type 0} → (Reading → Option A) → A → List Reading → A
 first_in pick default inside = unwrap_or (slice_get (filter_map pick inside) 0) default
 
+-- the first formula among them; shape sees that there is one
 abbrev pub formula_in : List Reading → DraftFormula
 formula_in inside = first_in formula_of (formula.Constant false) inside
 
+-- the first expression among them; shape sees that there is one
 abbrev pub expression_in : List Reading → DraftExpression
 expression_in inside = first_in expression_of expression.MissionTime inside
 
 -- ---- what the element's own attributes say
 
+-- the file and line of a start tag
 abbrev pub place_of : StartTag → Place
 place_of start = record { file = start.around.file; line = start.line }
 
@@ -159,6 +178,7 @@ place_of start = record { file = start.around.file; line = start.line }
 abbrev pub text_in : StartTag → Text → Text
 text_in start name = unwrap_or (value_in start.attributes name) []
 
+-- the value of the attribute `name`
 abbrev pub own_name : StartTag → Text
 own_name start = text_in start (codes "name")
 
@@ -166,9 +186,11 @@ own_name start = text_in start (codes "name")
 abbrev pub reference_by : Text → StartTag → DraftReference
 reference_by by start = record { name = text_in start by; place = place_of start; tag = start.number }
 
+-- what the attribute `name` refers to
 abbrev pub reference : StartTag → DraftReference
 reference start = reference_by (codes "name") start
 
+-- an attribute has this value
 abbrev pub has_value : StartTag → Text → Text → Bool
 has_value start name value = bytes_eq (text_in start name) value
 
@@ -180,15 +202,18 @@ event_kind start =
     else if has_value start (codes "type") (codes "house-event") then asked.House
     else asked.Any
 
+-- the model of a common cause group, by its attribute `model`
 abbrev pub group_model : StartTag → GroupModel
 group_model start =
     if has_value start (codes "model") (codes "beta-factor") then Beta
     else if has_value start (codes "model") (codes "MGL") then Mgl
     else Alpha
 
+-- 0 as a decimal, where shape has refused the text
 abbrev pub zero_decimal : Scaled
 zero_decimal = record { negative = false; digits = 0; exponent = pos 0 }
 
+-- the decimal of the attribute `value`
 abbrev pub decimal_in : StartTag → Scaled
 decimal_in start = unwrap_or (result_ok (decimal_of (text_in start (codes "value")))) zero_decimal
 
@@ -202,10 +227,12 @@ least_of Atleast start = number_in start.attributes (codes "min")
 least_of Cardinality start = number_in start.attributes (codes "min")
 least_of _ start = 0
 
+-- the bound `max`, which `cardinality` alone has
 abbrev pub most_of : Connective → StartTag → ℕ
 most_of Cardinality start = number_in start.attributes (codes "max")
 most_of _ start = 0
 
+-- the number of the attribute `level`, where it is given
 abbrev pub level_in : StartTag → Option ℕ
 level_in start = option_map (digits_value 10) (value_in start.attributes (codes "level"))
 
@@ -231,15 +258,18 @@ defines_by_role kind start body = record (defines kind start body) { private = i
 abbrev pub alone : DraftDefinition → Reading
 alone one = some_definitions (one ∷ [])
 
+-- a definition, before those inside its element
 abbrev pub before_others : DraftDefinition → List Reading → Reading
 before_others one inside = some_definitions (one ∷ definitions_in inside)
 
+-- a branch: its instructions, then its end
 abbrev pub branch_in : StartTag → List Reading → DraftBranch
 branch_in start inside = record {
   instructions = instructions_in inside;
   end = first_in end_of (ends.Sequence (reference start)) inside;
 }
 
+-- a common cause group, from the readings of its children
 abbrev pub group_in : StartTag → List Reading → DraftGroup
 group_in start inside = record {
   model = group_model start;
@@ -248,6 +278,7 @@ group_in start inside = record {
   factors = flat_map factors_of inside;
 }
 
+-- the body of what may have an expression
 abbrev pub value_body : List Reading → DraftBody
 value_body inside = body.Value (slice_get (expressions_in inside) 0)
 
@@ -256,6 +287,7 @@ abbrev pub references_of : DraftFormula-F DraftFormula → List DraftReference
 references_of (DraftFormula-F.Event kind one) = one ∷ []
 references_of _ = []
 
+-- a formula is the constant true
 abbrev pub is_true_constant : DraftFormula-F DraftFormula → Bool
 is_true_constant (DraftFormula-F.Constant state) = state
 is_true_constant _ = false
@@ -276,6 +308,7 @@ conditional _ _ = nothing
 
 -- ---- what an element of a row says, where its children say these
 
+-- what an element says, by its row of the table, its start tag and the readings of its children
 abbrev pub reading_of : Row → StartTag → List Reading → Reading
 reading_of opsa_mef start inside = some_definitions (definitions_in inside)
 reading_of model_data start inside = some_definitions (definitions_in inside)
@@ -352,6 +385,7 @@ surroundings_inside define_component start =
     record start.around { container = start.around.container ++ own_name start ∷ []; is_private = is_private start }
 surroundings_inside _ start = start.around
 
+-- what a child says, in the row that its tag names inside its parent's row
 abbrev pub child_reading : Row → Surroundings → ℕ → ElementReading → Reading
 child_reading parent around number child = in_row (row_inside parent child.tag)
   where
@@ -365,6 +399,7 @@ children_readings parent around number [] = []
 children_readings parent around number (child ∷ others) =
     child_reading parent around number child ∷ children_readings parent around (number + child.size) others
 
+-- what an element says where its row is known
 abbrev pub reading_in_row : Element-F ElementReading → Row → Surroundings → ℕ → Reading
 reading_in_row layer row around number = of_start (record {
   around = around;
@@ -376,6 +411,7 @@ reading_in_row layer row around number = of_start (record {
     of_start : StartTag → Reading
     of_start start = reading_of row start (children_readings row (surroundings_inside row start) (suc number) layer.children)
 
+-- one element over the readings of its children
 abbrev pub reading_layer : Element-F ElementReading → ElementReading
 reading_layer layer = record {
   tag = layer.tag;
@@ -383,6 +419,7 @@ reading_layer layer = record {
   reading = reading_in_row layer;
 }
 
+-- what an element says, whatever row it will stand in
 abbrev pub element_reading : Element → ElementReading
 element_reading = fold-Element ElementReading reading_layer
 
@@ -390,6 +427,7 @@ element_reading = fold-Element ElementReading reading_layer
 abbrev pub whole_file : ℕ → Surroundings
 whole_file file = record { file = file; container = []; is_private = false }
 
+-- the definitions of a file, by its number and its root
 abbrev pub file_definitions : ℕ × Element → List DraftDefinition
 file_definitions one = definitions_of ((element_reading one.1).reading opsa_mef (whole_file one.0) 0)
 

@@ -19,6 +19,7 @@ use Rattle.psa_elements.specs.declared.limits.TheConstants.{MAX_NAME, MAX_DIGITS
 
 -- ---- the rows
 
+-- the rows of the element table: an element in its place
 pub data Row : Type 0 where
   -- the model
   opsa_mef label attributes attribute define_fault_tree define_component model_data : Row
@@ -38,6 +39,7 @@ pub data Row : Type 0 where
   float int parameter mission_time : Row
   operator : ExpressionOperator → Row
 
+-- the tag of each connective of formulas
 abbrev pub connective_tag : Connective → Text
 connective_tag And = codes "and"
 connective_tag Or = codes "or"
@@ -50,6 +52,7 @@ connective_tag Imply = codes "imply"
 connective_tag Atleast = codes "atleast"
 connective_tag Cardinality = codes "cardinality"
 
+-- the tag of each operation of expressions
 abbrev pub operator_tag : ExpressionOperator → Text
 operator_tag operation.Neg = codes "neg"
 operator_tag operation.Add = codes "add"
@@ -58,6 +61,7 @@ operator_tag operation.Mul = codes "mul"
 operator_tag operation.Div = codes "div"
 operator_tag operation.Exponential = codes "exponential"
 
+-- the tag of each row
 abbrev pub tag_of : Row → Text
 tag_of opsa_mef = codes "opsa-mef"
 tag_of label = codes "label"
@@ -126,9 +130,11 @@ pub data Allowed : Type 0 where
 abbrev pub is_name_byte : ℕ → Bool
 is_name_byte b = is_ascii_alphanumeric b || list_any (λ other. b == other) (codes "_-") || not (is_ascii b)
 
+-- a text of at least one byte and at most so many
 abbrev pub has_length_to : ℕ → Text → Bool
 has_length_to most text = nat_le 1 (length text) && nat_le (length text) most
 
+-- a name: 1 to 128 bytes of names
 abbrev pub is_name : Text → Bool
 is_name text = has_length_to MAX_NAME text && list_all is_name_byte text
 
@@ -136,9 +142,11 @@ is_name text = has_length_to MAX_NAME text && list_all is_name_byte text
 abbrev pub is_reference : Text → Bool
 is_reference text = list_all is_name (name_parts text)
 
+-- one to four digits
 abbrev pub are_digits : Text → Bool
 are_digits text = has_length_to MAX_DIGITS text && list_all is_ascii_digit text
 
+-- a text that spells a decimal within the limits
 abbrev pub is_decimal : Text → Bool
 is_decimal text = is_ok (decimal_of text)
 
@@ -154,14 +162,17 @@ value_fault a_reference value = if is_reference value then None else Some BadNam
 value_fault (one_of values) value = if list_any (bytes_eq value) values then None else Some BadAttribute
 value_fault (a_number test) value = if test value then None else Some BadNumber
 
+-- a row's rule for one attribute: its name, whether it must stand, and its values
 pub record AttributeRule : Type 0 where
   pub name : Text
   pub is_required : Bool
   pub allowed : Allowed
 
+-- an attribute that must stand
 abbrev pub required : Text → Allowed → AttributeRule
 required name allowed = record { name = name; is_required = true; allowed = allowed }
 
+-- an attribute that may be left out
 abbrev pub optional : Text → Allowed → AttributeRule
 optional name allowed = record { name = name; is_required = false; allowed = allowed }
 
@@ -173,29 +184,37 @@ pub record Part : Type 0 where
   pub least : ℕ
   pub most : Option ℕ
 
+-- exactly so many children of these rows
 abbrev pub exactly : ℕ → List Row → Part
 exactly n rows = record { rows = rows; least = n; most = Some n }
 
+-- at most so many children of these rows
 abbrev pub at_most : ℕ → List Row → Part
 at_most n rows = record { rows = rows; least = 0; most = Some n }
 
+-- at least so many children of these rows
 abbrev pub at_least : ℕ → List Row → Part
 at_least n rows = record { rows = rows; least = n; most = None }
 
+-- a number of children of these rows between two bounds
 abbrev pub from_to : ℕ → ℕ → List Row → Part
 from_to least most rows = record { rows = rows; least = least; most = Some most }
 
+-- the children of a row: parts in any order, or in this one
 pub data Content : Type 0 where
   in_any_order : List Part → Content
   in_this_order : List Part → Content
 
+-- the parts of a content, in whatever order
 abbrev pub parts_of : Content → List Part
 parts_of (in_any_order parts) = parts
 parts_of (in_this_order parts) = parts
 
+-- no children
 abbrev pub empty : Content
 empty = in_any_order []
 
+-- children of one part alone
 abbrev pub only : Part → Content
 only part = in_any_order (part ∷ [])
 
@@ -206,62 +225,78 @@ pub record Rule : Type 0 where
   pub is_labelled : Bool
   pub content : Content
 
+-- the rule of a row without `label` and `attributes`
 abbrev pub unlabelled : List AttributeRule → Content → Rule
 unlabelled rules content = record { attribute_rules = Some rules; is_labelled = false; content = content }
 
+-- the rule of a row that `label` and `attributes` may stand in
 abbrev pub labelled : List AttributeRule → Content → Rule
 labelled rules content = record { attribute_rules = Some rules; is_labelled = true; content = content }
 
 -- ---- groups of rows
 
+-- the rows of formulas
 abbrev pub formulas : List Row
 formulas =
     gate ∷ basic_event ∷ house_event ∷ event ∷ constant
     ∷ connective And ∷ connective Or ∷ connective Not ∷ connective Xor ∷ connective Iff
     ∷ connective Nand ∷ connective Nor ∷ connective Imply ∷ connective Atleast ∷ connective Cardinality ∷ []
 
+-- the rows of expressions
 abbrev pub expressions : List Row
 expressions =
     float ∷ int ∷ parameter ∷ mission_time ∷ operator operation.Neg ∷ operator operation.Add ∷ operator operation.Sub
     ∷ operator operation.Mul ∷ operator operation.Div ∷ operator operation.Exponential ∷ []
 
+-- the rows of instructions
 abbrev pub instructions : List Row
 instructions = collect_formula ∷ set_house_event ∷ block ∷ rule ∷ if_instruction ∷ []
 
+-- the rows of tests
 abbrev pub tests : List Row
 tests = test_initiating_event ∷ test_functional_event ∷ all_tests ∷ any_test ∷ not_test ∷ []
 
+-- the rows that end a branch
 abbrev pub ends : List Row
 ends = fork ∷ to_sequence ∷ to_branch ∷ []
 
+-- the rows inside the root, apart from labels
 abbrev pub in_root : List Row
 in_root =
     define_fault_tree ∷ model_data ∷ define_group ∷ define_event_tree ∷ define_initiating_event ∷ define_rule ∷ []
 
+-- the rows inside an event tree, apart from labels and the initial state
 abbrev pub in_event_tree : List Row
 in_event_tree = define_functional_event ∷ define_sequence ∷ define_branch ∷ []
 
+-- the rows inside a fault tree or a component, apart from labels
 abbrev pub in_container : List Row
 in_container =
     define_gate ∷ define_basic_event ∷ define_house_event ∷ define_parameter ∷ define_group ∷ define_component ∷ []
 
 -- ---- attributes that many rows have
 
+-- the attribute `name` of a definition
 abbrev pub name_rule : AttributeRule
 name_rule = required (codes "name") a_name
 
+-- the attribute `name` of a reference, which may be a path
 abbrev pub reference_rule : AttributeRule
 reference_rule = required (codes "name") a_reference
 
+-- the attribute `role`
 abbrev pub role_rule : AttributeRule
 role_rule = optional (codes "role") (one_of (codes "public" ∷ codes "private" ∷ []))
 
+-- the attribute `role` in `model-data`, where nothing is private
 abbrev pub public_role_rule : AttributeRule
 public_role_rule = optional (codes "role") (one_of (codes "public" ∷ []))
 
+-- the attribute `unit`, which has no meaning
 abbrev pub unit_rule : AttributeRule
 unit_rule = optional (codes "unit") any_text
 
+-- the attribute `value`, with what it allows
 abbrev pub value_rule : Allowed → AttributeRule
 value_rule allowed = required (codes "value") allowed
 
@@ -269,17 +304,21 @@ value_rule allowed = required (codes "value") allowed
 abbrev pub bound_rule : Text → AttributeRule
 bound_rule name = required name (a_number are_digits)
 
+-- the attribute `model` of a common cause group
 abbrev pub model_rule : AttributeRule
 model_rule = required (codes "model") (one_of (codes "beta-factor" ∷ codes "MGL" ∷ codes "alpha-factor" ∷ []))
 
+-- the attribute `type` of `event`
 abbrev pub event_type_rule : AttributeRule
 event_type_rule = optional (codes "type") (one_of (codes "gate" ∷ codes "basic-event" ∷ codes "house-event" ∷ []))
 
 -- ---- contents that many rows have
 
+-- instructions, then one end
 abbrev pub branch_content : Content
 branch_content = in_this_order (at_least 0 instructions ∷ exactly 1 ends ∷ [])
 
+-- the rule of each connective: how many formulas it takes
 abbrev pub connective_rule : Connective → Rule
 connective_rule And = unlabelled [] (only (at_least 1 formulas))
 connective_rule Or = unlabelled [] (only (at_least 1 formulas))
@@ -293,6 +332,7 @@ connective_rule Atleast = unlabelled (bound_rule (codes "min") ∷ []) (only (fr
 connective_rule Cardinality =
     unlabelled (bound_rule (codes "min") ∷ bound_rule (codes "max") ∷ []) (only (from_to 1 MAX_COUNTED_ARGUMENTS formulas))
 
+-- the rule of each operation: how many expressions it takes
 abbrev pub operator_rule : ExpressionOperator → Rule
 operator_rule operation.Neg = unlabelled [] (only (exactly 1 expressions))
 operator_rule operation.Add = unlabelled [] (only (at_least 1 expressions))
@@ -303,6 +343,7 @@ operator_rule operation.Exponential = unlabelled [] (only (exactly 2 expressions
 
 -- ---- the table
 
+-- the element table: the rule of each row
 abbrev pub rule_of : Row → Rule
 rule_of opsa_mef = record { attribute_rules = None; is_labelled = true; content = only (at_least 0 in_root) }
 rule_of label = unlabelled [] empty
@@ -366,6 +407,7 @@ rule_of (operator o) = operator_rule o
 
 -- ---- rows inside a row
 
+-- the rows that carry no meaning
 abbrev pub label_rows : List Row
 label_rows = label ∷ attributes ∷ []
 
@@ -375,6 +417,7 @@ rows_inside row =
     (if (rule_of row).is_labelled then label_rows else [])
     ++ flat_map (λ part. part.rows) (parts_of (rule_of row).content)
 
+-- a row has this tag
 abbrev pub has_tag : Text → Row → Bool
 has_tag tag row = bytes_eq (tag_of row) tag
 

@@ -19,9 +19,11 @@ use Rattle.psa_elements.specs.ElementTable.{Row, opsa_mef, connective, rule_of, 
 
 -- ---- attributes
 
+-- an attribute has this name
 abbrev pub has_name : Text → Attribute → Bool
 has_name name attribute = bytes_eq attribute.name name
 
+-- the value of the attribute of a name, where it stands
 abbrev pub value_in : List Attribute → Text → Option Text
 value_in given name = option_map (λ attribute. attribute.value) (find (has_name name) given)
 
@@ -53,6 +55,7 @@ wrong_value tag given rule =
     option_map (λ kind. (kind, printed kind tag rule.name))
     (option_and_then (value_fault rule.allowed) (value_in given rule.name))
 
+-- the faults of an element's attributes, in the order of the checks
 abbrev pub attribute_faults : Text → List AttributeRule → List Attribute → List (FaultKind × Text)
 attribute_faults tag rules given =
     map (λ name. (BadAttribute, name)) (unknown_or_repeated rules [] given ++ missing rules given)
@@ -60,13 +63,16 @@ attribute_faults tag rules given =
 
 -- ---- the number and order of children
 
+-- a child's tag is one of a part
 abbrev pub is_in_part : Part → Text → Bool
 is_in_part part tag = list_any (has_tag tag) part.rows
 
+-- a number is within an upper bound, where there is one
 abbrev pub is_at_most : ℕ → Option ℕ → Bool
 is_at_most count None = true
 is_at_most count (Some most) = nat_le count most
 
+-- the number of children of a part is within its bounds
 abbrev pub has_number : List Text → Part → Bool
 has_number tags part =
     nat_le part.least (count_by (is_in_part part) tags) && is_at_most (count_by (is_in_part part) tags) part.most
@@ -82,6 +88,7 @@ stand_in_order [] [] = true
 stand_in_order [] (tag ∷ tags) = false
 stand_in_order (part ∷ parts) tags = stand_in_order parts (behind_part part tags)
 
+-- the children stand in the order that the content asks for
 abbrev pub has_order : Content → List Text → Bool
 has_order (in_any_order parts) tags = true
 has_order (in_this_order parts) tags = stand_in_order parts tags
@@ -102,6 +109,7 @@ has_bounds _ given count = true
 abbrev pub is_label : Text → Bool
 is_label tag = list_any (has_tag tag) label_rows
 
+-- number and order of the children, and the bounds of `min` and `max`, are those of the row
 abbrev pub is_well_shaped : Row → List Attribute → List Text → Bool
 is_well_shaped row given tags =
     list_all (has_number tags) (parts_of (rule_of row).content)
@@ -116,6 +124,7 @@ pub record ElementFaults : Type 0 where
   pub line : ℕ
   pub faults : Row → List ModelFault
 
+-- a fault in a file and line
 abbrev pub fault_at : ℕ → ℕ → FaultKind × Text → ModelFault
 fault_at file line fault = record { kind = fault.0; file = file; line = line; name = fault.1 }
 
@@ -135,9 +144,11 @@ own_faults row tag given = by_rules (rule_of row).attribute_rules
     by_rules None = []
     by_rules (Some rules) = attribute_faults tag rules given
 
+-- the fault of an element's children, where they are not as the row asks
 abbrev pub shape_fault_of : Row → Text → List Attribute → List Text → List (FaultKind × Text)
 shape_fault_of row tag given tags = if is_well_shaped row given tags then [] else (BadShape, tag) ∷ []
 
+-- the faults of an element in its row: its own, those of its children, that of their number and order
 abbrev pub faults_in_row : ℕ → Element-F ElementFaults → Row → List ModelFault
 faults_in_row file layer row =
     map (fault_at file layer.line) (own_faults row layer.tag layer.attributes)
@@ -147,9 +158,11 @@ faults_in_row file layer row =
     counted : List Text
     counted = filter (λ tag. not (is_label tag)) (map (λ child. child.tag) layer.children)
 
+-- one element over the faults of its children
 abbrev pub faults_layer : ℕ → Element-F ElementFaults → ElementFaults
 faults_layer file layer = record { tag = layer.tag; line = layer.line; faults = faults_in_row file layer }
 
+-- the faults in an element, by the row that it will stand in, in the order of the checks
 abbrev pub element_faults : ℕ → Element → ElementFaults
 element_faults file = fold-Element ElementFaults (faults_layer file)
 

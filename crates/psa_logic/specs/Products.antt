@@ -11,6 +11,7 @@ pub record IsMinimal (f : (ℕ → Bool) → Bool) (set : List ℕ) : Type 0 whe
   pub cuts : f (occurs set) ≡ true
   pub least : (part : List ℕ) → is_part part set ≡ true → f (occurs part) ≡ true → part ≡ set
 
+-- a minimal cut set as a set of ranks: ascending, a cut set, and no strict subset is one
 pub record IsMinimalCutSet (f : (ℕ → Bool) → Bool) (set : List ℕ) : Type 0 where
   pub ascending : is_ascending set ≡ true
   pub minimal : IsMinimal f set
@@ -23,6 +24,7 @@ literal_number rank occurring = if occurring then 2 * rank else 2 * rank + 1
 abbrev pub rank_of : ℕ → ℕ
 rank_of literal = literal / 2
 
+-- a literal of an event that occurs
 abbrev pub is_positive : ℕ → Bool
 is_positive literal = literal % 2 == 0
 

@@ -40,12 +40,15 @@ pub record Position : Type 0 where
   pub file : ℕ
   pub tag : ℕ
 
+-- the position of a definition: its file, and the number of its tag there
 abbrev pub position_of : DraftDefinition → Position
 position_of definition = record { file = definition.place.file; tag = definition.tag }
 
+-- the position of a reference
 abbrev pub reference_position : DraftReference → Position
 reference_position reference = record { file = reference.place.file; tag = reference.tag }
 
+-- the position of a path of a fork
 abbrev pub path_position : DraftForkPath → Position
 path_position path = record { file = path.place.file; tag = path.tag }
 
@@ -183,6 +186,7 @@ has_body kind.Sequence (body.Steps instructions link) = true
 has_body kind.Rule (body.Steps instructions None) = true
 has_body _ _ = false
 
+-- two lists of texts are the same
 abbrev pub same_texts : List Text → List Text → Bool
 same_texts [] [] = true
 same_texts (x ∷ xs) (y ∷ ys) = bytes_eq x y && same_texts xs ys
@@ -192,6 +196,7 @@ abbrev pub is_fault_tree : DefinitionKind → Bool
 is_fault_tree kind.FaultTree = true
 is_fault_tree _ = false
 
+-- a definition of an event tree
 abbrev pub is_event_tree : DefinitionKind → Bool
 is_event_tree kind.EventTree = true
 is_event_tree _ = false
@@ -230,6 +235,7 @@ have_containers before (one ∷ more) =
 
 -- ---- positions and size
 
+-- a position is before another: by file, then by tag
 abbrev pub stands_before : Position → Position → Bool
 stands_before one other = nat_lt one.file other.file || (one.file == other.file && nat_lt one.tag other.tag)
 
@@ -238,6 +244,7 @@ are_ascending [] = true
 are_ascending (one ∷ []) = true
 are_ascending (one ∷ other ∷ more) = stands_before one other && are_ascending (other ∷ more)
 
+-- two positions are the same
 abbrev pub same_position : Position → Position → Bool
 same_position one other = one.file == other.file && one.tag == other.tag
 

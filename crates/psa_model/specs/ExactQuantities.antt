@@ -8,6 +8,7 @@ use Rattle.psa_model.specs.declared.ids.EventNumber.{EventNumber}
 use Rattle.psa_model.specs.Quantities.{at_rank}
 use Rattle.psa_model.specs.Values.{zero_fraction}
 
+-- 1 as a fraction
 abbrev pub one_fraction : Fraction
 one_fraction = record { num = pos 1; den = 1 }
 
@@ -27,5 +28,6 @@ exact_bound quantities ranks product =
 abbrev pub exact_rare_event : List Fraction → Fraction
 exact_rare_event values = at_most_one (fold plus zero_fraction values)
 
+-- the min-cut upper bound of exact values: 1 less the product of what each leaves of 1
 abbrev pub exact_min_cut : List Fraction → Fraction
 exact_min_cut values = one_minus (fold (λ rest value. times rest (one_minus value)) one_fraction values)

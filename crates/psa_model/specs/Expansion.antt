@@ -52,6 +52,7 @@ abbrev pub events_of_group : Bool → GroupId → Group → List ExpandedEvent
 events_of_group true id group = map (λ subset. Shared id subset) (subsets_of group)
 events_of_group false id group = map (λ place. Member id place) (range_with_len 0 (length group.members))
 
+-- the events of one entry of the order of values: of a basic event, or of a group
 abbrev pub events_of_valued : Model → Bool → Valued → List ExpandedEvent
 events_of_valued model on (valued.Basic id) = Basic id ∷ []
 events_of_valued model on (valued.Group id) =
@@ -67,12 +68,15 @@ expanded_of on model = record { model = model; events = flat_map (events_of_valu
 abbrev pub whole_number : ℕ → Expression
 whole_number n = expression.Number (record { negative = false; digits = n; exponent = pos 0 })
 
+-- the product of expressions, as an expression
 abbrev pub product_of : List Expression → Expression
 product_of factors = expression.Operation Mul factors
 
+-- what an expression leaves of 1, as an expression
 abbrev pub one_less : Expression → Expression
 one_less part = expression.Operation Sub (whole_number 1 ∷ part ∷ [])
 
+-- one expression divided by another, as an expression
 abbrev pub quotient_of_two : Expression → Expression → Expression
 quotient_of_two dividend divisor = expression.Operation Div (dividend ∷ divisor ∷ [])
 
@@ -111,6 +115,7 @@ alpha_quantity group n size =
     (product_of (whole_number (choose (n - 1) (size - 1))
     ∷ expression.Operation Add (map (λ level. product_of (whole_number level ∷ factor_at group level ∷ [])) (range_with_len 1 n)) ∷ []))
 
+-- the quantity of a subset of a group by its model: of so many members, of that size
 abbrev pub quantity_of : GroupModel → Group → ℕ → ℕ → Expression
 quantity_of Beta = beta_quantity
 quantity_of Mgl = mgl_quantity

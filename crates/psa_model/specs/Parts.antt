@@ -22,6 +22,7 @@ use Rattle.psa_model.specs.Ranks.{ranks_of}
 use Rattle.psa_model.specs.Targets.{Collected, collected, occurs_by_rank}
 use Rattle.psa_model.specs.Truth.{truth, house_states}
 
+-- a truth: of which sets of events it is true
 abbrev pub Truth : Type 0
 Truth = (ℕ → Bool) → Bool
 

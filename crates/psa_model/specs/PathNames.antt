@@ -2,9 +2,11 @@
 use Rattle.std.specs.Prelude.{◌==◌, ℕ, Bool, List, length, nat_le}
 use Rattle.std.specs.List.{slice_split}
 
+-- a text, as the list of its bytes
 abbrev pub Text : Type 0
 Text = List ℕ
 
+-- `.`, which joins the names of a path
 abbrev pub dot : ℕ
 dot = 46
 

@@ -15,9 +15,11 @@ use Rattle.psa_model.specs.declared.settings.Settings.{Settings}
 abbrev pub has_quantities : Settings → Bool
 has_quantities settings = is_some settings.cut_off || settings.rare_event || settings.mcub
 
+-- the interval of 0 alone
 abbrev pub zero_ends : Ends
 zero_ends = record { lo = pos 0; hi = pos 0 }
 
+-- the interval of 1 alone
 abbrev pub one_ends : Ends
 one_ends = record { lo = pos units; hi = pos units }
 

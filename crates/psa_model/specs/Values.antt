@@ -37,6 +37,7 @@ abbrev pub of_only : {A B : Type 0} → B → (A → B) → List A → B
 of_only none f (x ∷ []) = f x
 of_only none f _ = none
 
+-- what is made of exactly two values
 abbrev pub of_both : {A B : Type 0} → B → (A → A → B) → List A → B
 of_both none f (x ∷ y ∷ []) = f x y
 of_both none f _ = none
@@ -57,6 +58,7 @@ has_operands Exponential count = count == 2
 
 -- ---- exact values
 
+-- 0 as a fraction
 abbrev pub zero_fraction : Fraction
 zero_fraction = record { num = pos 0; den = 1 }
 
@@ -74,6 +76,7 @@ exact_operation terms Mul values = folded times values
 exact_operation terms Div values = folded quotient values
 exact_operation terms Exponential values = of_both zero_fraction (exponential_at terms) values
 
+-- the exact value of one element over those of its arguments
 abbrev pub exact_layer : ℕ → Scaled → Model → (Expression → Fraction) → Expression-F Expression → Fraction
 exact_layer terms mission model below (Expression-F.Number decimal) = fraction_of decimal
 exact_layer terms mission model below (Expression-F.Parameter id) =
@@ -113,6 +116,7 @@ and_first (Err f) rest = Err f
 and_first (Ok x) (Err f) = Err f
 and_first (Ok x) (Ok xs) = Ok (x ∷ xs)
 
+-- the intervals of all arguments, or the first fault
 abbrev pub all_computed : List Computed → Result (List Ends) NumberFault
 all_computed [] = Ok []
 all_computed (x ∷ xs) = and_first x (all_computed xs)
@@ -122,10 +126,12 @@ abbrev pub applied : (Ends → Ends → Computed) → Computed → Ends → Comp
 applied f (Err found) y = Err found
 applied f (Ok x) y = f x y
 
+-- an operation of two intervals, folded from the left
 abbrev pub folded_ends : (Ends → Ends → Computed) → List Ends → Computed
 folded_ends f [] = no_value
 folded_ends f (x ∷ xs) = fold (applied f) (Ok x) xs
 
+-- an operation over the intervals of its arguments
 abbrev pub interval_operation : ExpressionOperator → List Ends → Computed
 interval_operation Neg values = of_only no_value (λ a. Ok (negative_ends a)) values
 interval_operation Add values = folded_ends (λ a b. limited (sum_ends a b)) values
@@ -139,6 +145,7 @@ abbrev pub on_values : ExpressionOperator → Result (List Ends) NumberFault →
 on_values operator (Err found) = Err found
 on_values operator (Ok values) = interval_operation operator values
 
+-- the interval of one element over those of its arguments
 abbrev pub interval_layer : Scaled → Model → (Expression → Computed) → Expression-F Expression → Computed
 interval_layer mission model below (Expression-F.Number decimal) = Ok (decimal_ends decimal)
 interval_layer mission model below (Expression-F.Parameter id) =
@@ -176,11 +183,13 @@ value_fault_kind number.ZeroDivisor = fault.ZeroDivisor
 value_fault_kind number.Negative = fault.NegativeRate
 value_fault_kind _ = fault.TooLarge
 
+-- the interval of an event from that of its expression: held to 0 and 1, or the fault
 abbrev pub finished : Computed → Result Ends FaultKind
 finished (Err found) = Err (value_fault_kind found)
 finished (Ok a) =
     if int_lt (pos units) a.lo || int_lt a.hi (pos 0) then Err fault.NotProbability else Ok (unit_ends a)
 
+-- the interval of an event by its expression, or the fault where there is none
 abbrev pub finished_value : Scaled → Model → Option Expression → Result Ends FaultKind
 finished_value mission model None = Err fault.NoValue
 finished_value mission model (Some e) = finished (interval_value MAX_VALUE_LEVELS mission model e)
@@ -201,10 +210,12 @@ and_event there (Err kind) rest = Err (fault_at kind there)
 and_event there (Ok x) (Err found) = Err found
 and_event there (Ok x) (Ok xs) = Ok (x ∷ xs)
 
+-- the intervals of some events in their order, or the first fault
 abbrev pub values_from : Scaled → Model → List ExpandedEvent → Result (List Ends) ModelFault
 values_from mission model [] = Ok []
 values_from mission model (event ∷ events) =
     and_event (place_of_event model event) (event_interval mission model event) (values_from mission model events)
 
+-- the interval of each event, or the first fault
 abbrev pub values_of : Scaled → Expanded → Result (List Ends) ModelFault
 values_of mission expanded = values_from mission expanded.model expanded.events

@@ -30,6 +30,7 @@ path_members one =
     filter_map (λ member. if is_path member.name then Some (record { kind = event asked.Basic; written = member }) else None)
     (members_of one.body)
 
+-- the references of an entry that lead somewhere, those of a group's paths first
 abbrev pub references_of : Entry → List Reference
 references_of one = path_members one ++ flat_map references_in one.outlines
 
@@ -59,6 +60,7 @@ followed entries from reference = option_and_then (chained_place entries) (meani
 abbrev pub followed_from : Entries → Entry → List ℕ
 followed_from entries one = if is_chained one.kind then filter_map (followed entries one) (references_of one) else []
 
+-- the places that the entry at a place leads to
 abbrev pub refers_to : Entries → ℕ → List ℕ
 refers_to entries place = option_map_or (followed_from entries) (slice_get entries place) []
 
@@ -74,6 +76,7 @@ leads (suc steps) entries from to = list_any (λ next. (next == to) || leads ste
 
 -- ---- depth
 
+-- all outlines of a list pass a test
 abbrev pub all_pass : (Outline → Bool) → Outlines → Bool
 all_pass test none = true
 all_pass test (and one others) = test one && all_pass test others
@@ -92,5 +95,6 @@ is_within (suc levels) entries from (element reference inside) =
     && passes_on (λ to. list_all (λ one. is_within levels entries to one) to.outlines) entries
     (option_and_then (followed entries from) reference)
 
+-- each outline of an entry is within so many levels
 abbrev pub is_within_all : ℕ → Entries → Entry → Bool
 is_within_all levels entries one = list_all (is_within levels entries one) one.outlines

@@ -27,6 +27,7 @@ use Rattle.psa_names.specs.Resolved.{resolved_test}
 
 -- ---- what is collected
 
+-- the formulas of one instruction over those inside it
 abbrev pub collected_layer : DraftInstruction-F (List DraftFormula) → List DraftFormula
 collected_layer (DraftInstruction-F.Collect formula) = formula ∷ []
 collected_layer (DraftInstruction-F.SetHouse name state) = []
@@ -34,20 +35,24 @@ collected_layer (DraftInstruction-F.Block inside) = flat_map (λ all. all) insid
 collected_layer (DraftInstruction-F.Rule name) = []
 collected_layer (DraftInstruction-F.If test first second) = flat_map (λ all. all) first ++ flat_map (λ all. all) second
 
+-- the formulas that an instruction collects
 abbrev pub collected_by : DraftInstruction → List DraftFormula
 collected_by = fold-DraftInstruction (List DraftFormula) collected_layer
 
+-- the formulas below the end of a branch
 abbrev pub end_collected : (DraftBranch → List DraftFormula) → DraftBranchEnd-F DraftBranchEnd DraftBranch DraftForkPath → List DraftFormula
 end_collected below (DraftBranchEnd-F.Fork name paths) = flat_map (λ path. below path.branch) paths
 end_collected below (DraftBranchEnd-F.Sequence name) = []
 end_collected below (DraftBranchEnd-F.Branch name) = []
 
+-- the formulas of a branch in document order, within so many levels
 unfoldable pub branch_collected : ℕ → DraftBranch → List DraftFormula
 branch_collected zero one = []
 branch_collected (suc levels) one =
     flat_map collected_by one.instructions
     ++ end_collected (λ below. branch_collected levels below) (out-DraftBranchEnd one.end)
 
+-- the formulas that a definition's body collects
 abbrev pub collected_in : DraftBody → List DraftFormula
 collected_in (body.Steps instructions link) = flat_map collected_by instructions
 collected_in (body.Walk one) = branch_collected MAX_NESTING one
@@ -77,6 +82,7 @@ contents_before one other =
     || (not (stands_before (contents_position other) (contents_position one))
     && stands_before (position_of one.definition) (position_of other.definition))
 
+-- an entry put in its place among entries that are in the order of their contents
 abbrev pub placed : Entry → List Entry → List Entry
 placed one [] = one ∷ []
 placed one (other ∷ others) = if contents_before other one then other ∷ placed one others else one ∷ other ∷ others
@@ -98,6 +104,7 @@ pub record Collecting (A : Type 0) : Type 0 where
   pub size : ℕ
   pub behind : ℕ → A
 
+-- how many formulas a list of instructions or paths collects
 abbrev pub total_size : {A : Type 0} → List (Collecting A) → ℕ
 total_size all = sum (map (λ one. one.size) all)
 
@@ -106,6 +113,7 @@ abbrev pub all_behind : {A : Type 0} → ℕ → List (Collecting A) → List A
 all_behind number [] = []
 all_behind number (one ∷ others) = one.behind number ∷ all_behind (number + one.size) others
 
+-- one instruction with its names found, over those inside it; formulas are numbered from a first number on
 abbrev pub resolved_instruction_layer : Entries → Entry → DraftInstruction-F (Collecting Instruction) → Collecting Instruction
 resolved_instruction_layer entries from (DraftInstruction-F.Collect formula) =
     record { size = 1; behind = λ number. instruction.Collect (record { 0 = number }) }
@@ -122,18 +130,22 @@ resolved_instruction_layer entries from (DraftInstruction-F.If test first second
   behind = λ number. instruction.If (resolved_test entries from test) (all_behind number first) (all_behind (number + total_size first) second);
 }
 
+-- an instruction with its names found, by the number of its first formula
 abbrev pub resolved_instruction : Entries → Entry → DraftInstruction → Collecting Instruction
 resolved_instruction entries from = fold-DraftInstruction (Collecting Instruction) (resolved_instruction_layer entries from)
 
+-- instructions with their names found, by the number of their first formula
 abbrev pub resolved_instructions : Entries → Entry → ℕ → List DraftInstruction → List Instruction
 resolved_instructions entries from number all = all_behind number (map (resolved_instruction entries from) all)
 
+-- a path of a fork with its names found
 abbrev pub resolved_path : (ℕ → DraftBranch → Branch) → DraftForkPath → Collecting ForkPath
 resolved_path below path = record {
   size = length (branch_collected MAX_NESTING path.branch);
   behind = λ number. record { state = path.state; branch = below number path.branch };
 }
 
+-- the end of a branch with its names found
 abbrev pub resolved_end : Entries → Entry → (ℕ → DraftBranch → Branch) → ℕ → DraftBranchEnd-F DraftBranchEnd DraftBranch DraftForkPath → BranchEnd
 resolved_end entries from below number (DraftBranchEnd-F.Fork name paths) =
     end.Fork (record { 0 = referred_id kind.FunctionalEvent functional_event entries from name })

@@ -18,6 +18,7 @@ use Rattle.psa_names.specs.Meanings.{Meaning, definition, of_group, members_of, 
 
 -- ---- members
 
+-- two references stand for the same definition
 abbrev pub same_meaning : Option Meaning → Option Meaning → Bool
 same_meaning (Some (definition one)) (Some (definition other)) = one == other
 same_meaning (Some (of_group one)) (Some (of_group other)) = bytes_eq one other
@@ -28,6 +29,7 @@ abbrev pub meanings_of_members : Entries → Entry → List (Option Meaning)
 meanings_of_members entries group =
     map (λ member. meaning_of_event entries group.container member.name) (members_of group.body)
 
+-- two of these stand for the same
 abbrev pub has_repeat : List (Option Meaning) → Bool
 has_repeat [] = false
 has_repeat (one ∷ others) = list_any (same_meaning one) others || has_repeat others
@@ -37,6 +39,7 @@ abbrev pub has_no_expression : DraftBody → Bool
 has_no_expression (body.Value None) = true
 has_no_expression _ = false
 
+-- a definition of a basic event
 abbrev pub is_basic_event : DefinitionKind → Bool
 is_basic_event kind.BasicEvent = true
 is_basic_event _ = false
@@ -48,6 +51,7 @@ can_be_member entries (Some (of_group name)) = true
 can_be_member entries (Some (definition place)) =
     option_map_or (λ one. is_basic_event one.kind && has_no_expression one.body) (slice_get entries place) false
 
+-- two groups share a member
 abbrev pub have_one_in_common : List (Option Meaning) → List (Option Meaning) → Bool
 have_one_in_common ones others = list_any (λ one. list_any (same_meaning one) others) ones
 
@@ -58,6 +62,7 @@ abbrev pub level_in : GroupModel → ℕ → DraftFactor → Option ℕ
 level_in Beta members factor = Some (unwrap_or factor.level members)
 level_in _ members factor = factor.level
 
+-- a factor has this level
 abbrev pub has_level : GroupModel → ℕ → ℕ → DraftFactor → Bool
 has_level model members level factor = option_map_or (λ its. its == level) (level_in model members factor) false
 
@@ -67,6 +72,7 @@ has_levels model members factors =
     (length factors == length (levels_of model members))
     && list_all (λ level. count_by (has_level model members level) factors == 1) (levels_of model members)
 
+-- the factors of a group have exactly the levels of its model
 abbrev pub body_has_levels : DraftBody → Bool
 body_has_levels (body.Group group) = has_levels group.model (length group.members) group.factors
 body_has_levels _ = true

@@ -11,6 +11,7 @@ use Rattle.psa_names.specs.Outlines.{ReferenceKind, Entry, Entries}
 use Rattle.psa_names.specs.Meanings.{Meaning, definition, of_group, defined_by_group, meaning_of}
 use Rattle.psa_names.specs.GroupRules.{same_meaning}
 
+-- the kinds of definitions, numbered to be compared
 abbrev pub kind_number : DefinitionKind → ℕ
 kind_number kind.FaultTree = 0
 kind_number kind.Gate = 1
@@ -26,6 +27,7 @@ kind_number kind.Branch = 10
 kind_number kind.Rule = 11
 kind_number kind.Component = 12
 
+-- an entry is of this kind
 abbrev pub is_kind : DefinitionKind → Entry → Bool
 is_kind its one = kind_number one.kind == kind_number its
 
@@ -44,6 +46,7 @@ basics_at entries one =
     else if is_kind kind.Group one.1 then map of_group (defined_by_group entries one.1)
     else []
 
+-- all basic events of a draft in their order: those defined, and those that groups define
 abbrev pub all_basics : Entries → List Meaning
 all_basics entries = flat_map (basics_at entries) (enumerate_from 0 entries)
 
@@ -57,6 +60,7 @@ tree_id its entries [] = 0
 tree_id its entries (name ∷ names) =
     unwrap_or (position (λ one. bytes_eq one.1.name name) (all_of_kind its entries)) 0
 
+-- the number, within its kind, of what a reference stands for
 abbrev pub id_of_meaning : DefinitionKind → Entries → Option Meaning → ℕ
 id_of_meaning its entries (Some (definition place)) = id_of its entries place
 id_of_meaning its entries _ = 0

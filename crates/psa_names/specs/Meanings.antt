@@ -13,6 +13,7 @@ use Rattle.psa_names.specs.NameSpaces.{Family, events, parameters, event_trees, 
 
 -- ---- the search among definitions
 
+-- an entry has this name
 abbrev pub has_name : Text → Entry → Bool
 has_name name one = bytes_eq one.name name
 
@@ -35,6 +36,7 @@ abbrev pub outwards : List Text → List (List Text)
 outwards [] = []
 outwards (name ∷ names) = map (λ inner. name ∷ inner) (outwards names) ++ (name ∷ []) ∷ []
 
+-- the first that there is
 abbrev pub first_some : {A : Type 0} → List (Option A) → Option A
 first_some [] = None
 first_some (one ∷ others) = option_or one (first_some others)
@@ -63,6 +65,7 @@ pub data Meaning : Type 0 where
   definition : ℕ → Meaning
   of_group : Text → Meaning
 
+-- the members of a group's body
 abbrev pub members_of : DraftBody → List DraftReference
 members_of (body.Group group) = group.members
 members_of _ = []
@@ -76,9 +79,11 @@ defined_by_group entries group =
     is_absent : Text → Bool
     is_absent name = not (is_path name) && not (is_some (definition_named entries events group.container name))
 
+-- some group defines a basic event of this name
 abbrev pub is_defined_by_group : Entries → Text → Bool
 is_defined_by_group entries name = list_any (λ group. list_any (bytes_eq name) (defined_by_group entries group)) entries
 
+-- what the name of an event stands for: a definition, or what a group defines
 abbrev pub meaning_of_event : Entries → List Text → Text → Option Meaning
 meaning_of_event entries container name =
     option_or (option_map definition (definition_named entries events container name))

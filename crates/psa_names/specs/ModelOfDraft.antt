@@ -43,6 +43,7 @@ model_name one =
 
 -- ---- what a definition says in the model
 
+-- the formula of a gate's definition
 abbrev pub formula_in : Entries → Entry → Formula
 formula_in entries one = of_body one.body
   where
@@ -50,6 +51,7 @@ formula_in entries one = of_body one.body
     of_body (body.Formula its) = resolved_formula entries one its
     of_body _ = formula.Constant false
 
+-- the expression of a definition, where it has one
 abbrev pub expression_in : Entries → Entry → Option Expression
 expression_in entries one = of_body one.body
   where
@@ -57,17 +59,21 @@ expression_in entries one = of_body one.body
     of_body (body.Value its) = option_map (resolved_expression entries one) its
     of_body _ = None
 
+-- the state of a house event's definition
 abbrev pub state_in : DraftBody → Bool
 state_in (body.State state) = state
 state_in _ = false
 
+-- the instructions of a definition's body
 abbrev pub steps_in : DraftBody → List DraftInstruction
 steps_in (body.Steps instructions link) = instructions
 steps_in _ = []
 
+-- the instructions of a definition with their names found
 abbrev pub instructions_in : Entries → Entry → List Instruction
 instructions_in entries one = resolved_instructions entries one (collected_before entries one) (steps_in one.body)
 
+-- the branch of a definition with its names found
 abbrev pub branch_in : Entries → Entry → Branch
 branch_in entries one = of_body one.body
   where
@@ -75,6 +81,7 @@ branch_in entries one = of_body one.body
     of_body (body.Walk its) = resolved_branch MAX_NESTING entries one (collected_before entries one) its
     of_body _ = no_branch
 
+-- the link of a definition, where it has one
 abbrev pub link_in : DraftBody → Option DraftReference
 link_in (body.Steps instructions link) = link
 link_in (body.Start tree) = tree
@@ -86,6 +93,7 @@ linked_id entries one = option_map (referred_id kind.EventTree event_tree entrie
 
 -- ---- gates and events
 
+-- the gate of an entry
 abbrev pub gate_of : Entries → ℕ × Entry → Gate
 gate_of entries one = record {
   name = model_name one.1;
@@ -94,6 +102,7 @@ gate_of entries one = record {
   formula = formula_in entries one.1;
 }
 
+-- the basic events that a group defines
 abbrev pub defined_basics : Entries → Entry → List BasicEvent
 defined_basics entries group =
     map (λ name. record { name = name; place = group.place; expression = None }) (defined_by_group entries group)
@@ -108,6 +117,7 @@ basics_of entries one =
 
 -- ---- groups
 
+-- the numbers of a group's members among basic events
 abbrev pub member_ids : Entries → Entry → List ℕ
 member_ids entries group =
     filter_map (λ member. option_map (basic_id entries) (meaning_of_event entries group.container member.name))
@@ -118,9 +128,11 @@ abbrev pub factor_of : Entries → Entry → ℕ → DraftFactor → Factor
 factor_of entries group members factor =
     record { level = unwrap_or factor.level members; expression = resolved_expression entries group factor.expression }
 
+-- factors in the order of their levels
 abbrev pub by_level : List Factor → List Factor
 by_level factors = flat_map (λ level. filter (λ factor. factor.level == level) factors) (range_with_len 1 MAX_MEMBERS)
 
+-- the group of an entry
 abbrev pub group_of : Entries → Entry → Group
 group_of entries one = of_body one.body
   where
@@ -142,6 +154,7 @@ group_of entries one = of_body one.body
       factors = [];
     }
 
+-- a basic event is a member of some group
 abbrev pub is_member : Entries → ℕ → Bool
 is_member entries id =
     list_any (λ group. list_any (λ member. member == id) (member_ids entries group.1)) (all_of_kind kind.Group entries)
@@ -156,9 +169,11 @@ valued_at entries one =
 
 -- ---- the lists
 
+-- what is made of each definition of a kind, in document order
 abbrev pub each_of_kind : {A : Type 0} → DefinitionKind → Entries → (Entry → A) → List A
 each_of_kind its entries make = map (λ one. make one.1) (all_of_kind its entries)
 
+-- the model of a draft's entries
 abbrev pub model_from : Entries → Model
 model_from entries = record {
   gates = map (gate_of entries) (all_of_kind kind.Gate entries);

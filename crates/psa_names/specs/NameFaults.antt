@@ -23,6 +23,7 @@ use Rattle.psa_names.specs.Chains.{references_of, is_chained, leads, is_within_a
 
 -- ---- no name stands twice in a space
 
+-- the definitions and states whose name stands before them in one of their spaces
 abbrev pub duplicates : Entries → List PlacedFault
 duplicates entries =
     map (λ one. fault_at fault.Duplicate one.position one.place one.name)
@@ -38,6 +39,7 @@ is_event_kind asked.Basic kind.BasicEvent = true
 is_event_kind asked.House kind.HouseEvent = true
 is_event_kind _ _ = false
 
+-- a definition is of the kind that a reference asks for
 abbrev pub has_kind : ReferenceKind → DefinitionKind → Bool
 has_kind (event asked) its = is_event_kind asked its
 has_kind _ its = true
@@ -47,21 +49,25 @@ abbrev pub means_kind : Entries → ReferenceKind → Meaning → Bool
 means_kind entries its (definition place) = option_map_or (λ one. has_kind its one.kind) (slice_get entries place) false
 means_kind entries its (of_group name) = has_kind its kind.BasicEvent
 
+-- what is wrong with what a reference stands for, if anything is
 abbrev pub reference_fault : Entries → ReferenceKind → Option Meaning → Option FaultKind
 reference_fault entries its None = Some fault.Undefined
 reference_fault entries its (Some meaning) = if means_kind entries its meaning then None else Some fault.WrongKind
 
+-- the fault of a reference, where it has one, at its position
 abbrev pub fault_of_reference : Entries → Entry → Reference → Option PlacedFault
 fault_of_reference entries from reference =
     option_map
     (λ its. fault_at its (reference_position reference.written) reference.written.place reference.written.name)
     (reference_fault entries reference.kind (meaning_of entries from reference))
 
+-- the faults of all references
 abbrev pub bad_references : Entries → List PlacedFault
 bad_references entries = flat_map (λ one. filter_map (fault_of_reference entries one) (references_of one)) entries
 
 -- ---- each group is allowed behind the definitions before it
 
+-- the groups that are not allowed
 abbrev pub bad_groups : Entries → List PlacedFault
 bad_groups entries =
     map (λ one. fault_of fault.BadGroup one.1)
@@ -70,6 +76,7 @@ bad_groups entries =
 
 -- ---- no definition reaches itself: a chain of as many references as there are definitions is long enough
 
+-- the definitions that reach themselves
 abbrev pub cycles : Entries → List PlacedFault
 cycles entries =
     map (λ one. fault_of fault.Cycle one.1)
@@ -77,6 +84,7 @@ cycles entries =
 
 -- ---- no definition is too deep
 
+-- the definitions deeper than the limit
 abbrev pub too_deep : Entries → List PlacedFault
 too_deep entries =
     map (fault_of fault.TooDeep)
@@ -89,6 +97,7 @@ abbrev pub or_next : Option PlacedFault → (Unit {0} → Option PlacedFault) �
 or_next (Some one) next = Some one
 or_next None next = next tt
 
+-- the earliest fault of the first check that has one
 abbrev pub first_fault : Entries → Option ModelFault
 first_fault entries =
     option_map (λ one. one.fault)
@@ -96,5 +105,6 @@ first_fault entries =
     (λ u. or_next (earliest (bad_groups entries)) (λ u. or_next (earliest (cycles entries))
     (λ u. earliest (too_deep entries))))))
 
+-- the first fault of names of a draft
 abbrev pub name_fault : Draft → Option ModelFault
 name_fault draft = first_fault (entries_of draft)

@@ -14,6 +14,7 @@ pub data Family : Type 0 where
   events parameters fault_trees components groups event_trees initiating_events : Family
   functional_events sequences branches rules : Family
 
+-- the family of a kind of definitions: those whose names are apart in a space
 abbrev pub family_of : DefinitionKind → Family
 family_of kind.FaultTree = fault_trees
 family_of kind.Gate = events
@@ -29,6 +30,7 @@ family_of kind.Branch = branches
 family_of kind.Rule = rules
 family_of kind.Component = components
 
+-- the families, numbered to be compared
 abbrev pub family_number : Family → ℕ
 family_number events = 0
 family_number parameters = 1
@@ -42,9 +44,11 @@ family_number sequences = 8
 family_number branches = 9
 family_number rules = 10
 
+-- two families are the same
 abbrev pub same_family : Family → Family → Bool
 same_family one other = family_number one == family_number other
 
+-- an entry is of this family
 abbrev pub is_in_family : Family → Entry → Bool
 is_in_family family one = same_family (family_of one.kind) family
 
@@ -57,6 +61,7 @@ pub data Space : Type 0 where
   directly_in : Family → List Text → Space
   states_of_fork : Position → Space
 
+-- two spaces are the same
 abbrev pub same_space : Space → Space → Bool
 same_space (whole_model family) (whole_model other) = same_family family other
 same_space (directly_in family around) (directly_in other around_other) =
@@ -103,6 +108,7 @@ pub record Named : Type 0 where
   pub name : Text
   pub spaces : List Space
 
+-- a path of a fork as something that has a name in its fork
 abbrev pub named_state : ForkState → Named
 named_state one = record {
   position = path_position one.path;
@@ -111,14 +117,17 @@ named_state one = record {
   spaces = states_of_fork (reference_position one.fork) ∷ [];
 }
 
+-- what an entry names: itself, and the states of its forks
 abbrev pub named_in : Entry → List Named
 named_in one =
     record { position = position_of one.definition; place = one.place; name = one.name; spaces = spaces_of one }
     ∷ map named_state one.states
 
+-- all that has a name in a draft, in document order
 abbrev pub all_named : Entries → List Named
 all_named entries = flat_map named_in entries
 
+-- two stand in a common space
 abbrev pub share_space : Named → Named → Bool
 share_space one other = list_any (λ space. list_any (same_space space) other.spaces) one.spaces
 

@@ -48,6 +48,7 @@ mutual
     none : Outlines
     and : Outline → Outlines → Outlines
 
+-- a list of outlines as one
 abbrev pub joined : List Outline → Outlines
 joined [] = none
 joined (one ∷ others) = and one (joined others)
@@ -56,28 +57,34 @@ joined (one ∷ others) = and one (joined others)
 abbrev pub plain : List Outline → Outline
 plain inside = element None (joined inside)
 
+-- an element that refers to something
 abbrev pub naming : ReferenceKind → DraftReference → List Outline → Outline
 naming kind written inside = element (Some (record { kind = kind; written = written })) (joined inside)
 
 -- ---- the outlines of what a definition holds
 
+-- the outline of one element of a formula over those of its arguments
 abbrev pub formula_layer : DraftFormula-F Outline → Outline
 formula_layer (DraftFormula-F.Event kind name) = naming (event kind) name []
 formula_layer (DraftFormula-F.Constant state) = plain []
 formula_layer (DraftFormula-F.Connective operator least most arguments) = plain arguments
 
+-- the outline of a formula
 abbrev pub formula_outline : DraftFormula → Outline
 formula_outline = fold-DraftFormula Outline formula_layer
 
+-- the outline of one element of an expression over those of its arguments
 abbrev pub expression_layer : DraftExpression-F Outline → Outline
 expression_layer (DraftExpression-F.Number decimal) = plain []
 expression_layer (DraftExpression-F.Parameter name) = naming parameter name []
 expression_layer DraftExpression-F.MissionTime = plain []
 expression_layer (DraftExpression-F.Operation operator arguments) = plain arguments
 
+-- the outline of an expression
 abbrev pub expression_outline : DraftExpression → Outline
 expression_outline = fold-DraftExpression Outline expression_layer
 
+-- the outline of one test over those inside it
 abbrev pub test_layer : DraftTest-F Outline → Outline
 test_layer (DraftTest-F.Initiating name) = naming initiating_event name []
 test_layer (DraftTest-F.Functional name state) = naming functional_event_anywhere name []
@@ -85,6 +92,7 @@ test_layer (DraftTest-F.All tests) = plain tests
 test_layer (DraftTest-F.Any tests) = plain tests
 test_layer (DraftTest-F.Not tests) = plain tests
 
+-- the outline of a test
 abbrev pub test_outline : DraftTest → Outline
 test_outline = fold-DraftTest Outline test_layer
 
@@ -96,6 +104,7 @@ instruction_layer (DraftInstruction-F.Block inside) = plain inside
 instruction_layer (DraftInstruction-F.Rule name) = naming rule name []
 instruction_layer (DraftInstruction-F.If test first second) = plain (test_outline test ∷ first ++ second)
 
+-- the outline of an instruction
 abbrev pub instruction_outline : DraftInstruction → Outline
 instruction_outline = fold-DraftInstruction Outline instruction_layer
 
@@ -107,24 +116,29 @@ end_outline below (DraftBranchEnd-F.Fork name paths) =
 end_outline below (DraftBranchEnd-F.Sequence name) = naming sequence name []
 end_outline below (DraftBranchEnd-F.Branch name) = naming branch name []
 
+-- the outlines of a branch, within so many levels: its instructions, then its end
 unfoldable pub branch_outlines : ℕ → DraftBranch → List Outline
 branch_outlines zero one = []
 branch_outlines (suc levels) one =
     map instruction_outline one.instructions
     ++ end_outline (λ below. branch_outlines levels below) (out-DraftBranchEnd one.end) ∷ []
 
+-- the outline of a link
 abbrev pub link_outlines : Option DraftReference → List Outline
 link_outlines None = []
 link_outlines (Some name) = naming event_tree name [] ∷ []
 
+-- the outline of a value, where there is one
 abbrev pub value_outlines : Option DraftExpression → List Outline
 value_outlines None = []
 value_outlines (Some value) = expression_outline value ∷ []
 
+-- the outlines of a group: its distribution and its factors
 abbrev pub group_outlines : DraftGroup → List Outline
 group_outlines group =
     expression_outline group.distribution ∷ map (λ factor. expression_outline factor.expression) group.factors
 
+-- the outlines of a definition's body
 abbrev pub body_outlines : DraftBody → List Outline
 body_outlines body.Nothing = []
 body_outlines (body.Formula one) = formula_outline one ∷ []
@@ -147,17 +161,20 @@ pub record ForkState : Type 0 where
   pub fork : DraftReference
   pub path : DraftForkPath
 
+-- the states of the forks at and below the end of a branch
 abbrev pub end_states : (DraftBranch → List ForkState) → DraftBranchEnd-F DraftBranchEnd DraftBranch DraftForkPath → List ForkState
 end_states below (DraftBranchEnd-F.Fork name paths) =
     flat_map (λ path. record { fork = name; path = path } ∷ below path.branch) paths
 end_states below (DraftBranchEnd-F.Sequence name) = []
 end_states below (DraftBranchEnd-F.Branch name) = []
 
+-- the states of the forks of a branch, within so many levels
 unfoldable pub branch_states : ℕ → DraftBranch → List ForkState
 branch_states zero one = []
 branch_states (suc levels) one =
     end_states (λ below. branch_states levels below) (out-DraftBranchEnd one.end)
 
+-- the states of the forks of a definition's body
 abbrev pub states_of : DraftBody → List ForkState
 states_of (body.Walk one) = branch_states MAX_NESTING one
 states_of _ = []
@@ -169,11 +186,14 @@ pub record Entry : Type 0 where
   pub outlines : List Outline
   pub states : List ForkState
 
+-- a definition with its outlines and the states of its forks
 abbrev pub entry_of : DraftDefinition → Entry
 entry_of one = record { definition = one; outlines = outlines_of one; states = states_of one.body }
 
+-- the definitions of a draft, each with its outlines
 abbrev pub Entries : Type 0
 Entries = List Entry
 
+-- the entries of a draft
 abbrev pub entries_of : Draft → Entries
 entries_of draft = map entry_of draft.definitions

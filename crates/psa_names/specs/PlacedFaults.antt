@@ -13,6 +13,7 @@ pub record PlacedFault : Type 0 where
   pub position : Position
   pub fault : ModelFault
 
+-- a fault with its position among the elements
 abbrev pub fault_at : FaultKind → Position → Place → Text → PlacedFault
 fault_at kind position place name =
     record { position = position; fault = record { kind = kind; file = place.file; line = place.line; name = name } }
@@ -21,6 +22,7 @@ fault_at kind position place name =
 abbrev pub fault_of : FaultKind → Entry → PlacedFault
 fault_of kind one = fault_at kind (position_of one.definition) one.place one.name
 
+-- the earlier of two faults by their positions
 abbrev pub earlier : PlacedFault → Option PlacedFault → Option PlacedFault
 earlier one None = Some one
 earlier one (Some other) = if stands_before other.position one.position then Some other else Some one

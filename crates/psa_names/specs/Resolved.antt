@@ -33,6 +33,7 @@ event_formula entries (Some (definition place)) = of_definition (slice_get entri
         else if is_kind kind.HouseEvent one then formula.House (record { 0 = id_of kind.HouseEvent entries place })
         else formula.Basic (record { 0 = basic_id entries (definition place) })
 
+-- one element of a formula with its name found, over its arguments
 abbrev pub resolved_formula_layer : Entries → Entry → DraftFormula-F Formula → Formula
 resolved_formula_layer entries from (DraftFormula-F.Event its name) =
     event_formula entries (meaning_of entries from (record { kind = event its; written = name }))
@@ -44,6 +45,7 @@ resolved_formula_layer entries from (DraftFormula-F.Connective operator least mo
 abbrev pub resolved_formula : Entries → Entry → DraftFormula → Formula
 resolved_formula entries from = fold-DraftFormula Formula (resolved_formula_layer entries from)
 
+-- one element of an expression with its name found, over its arguments
 abbrev pub resolved_expression_layer : Entries → Entry → DraftExpression-F Expression → Expression
 resolved_expression_layer entries from (DraftExpression-F.Number decimal) = expression.Number decimal
 resolved_expression_layer entries from (DraftExpression-F.Parameter name) =
@@ -52,6 +54,7 @@ resolved_expression_layer entries from DraftExpression-F.MissionTime = expressio
 resolved_expression_layer entries from (DraftExpression-F.Operation operator arguments) =
     expression.Operation operator arguments
 
+-- an expression with its names found
 abbrev pub resolved_expression : Entries → Entry → DraftExpression → Expression
 resolved_expression entries from = fold-DraftExpression Expression (resolved_expression_layer entries from)
 
@@ -64,5 +67,6 @@ resolved_test_layer entries from (DraftTest-F.All tests) = test.All tests
 resolved_test_layer entries from (DraftTest-F.Any tests) = test.Any tests
 resolved_test_layer entries from (DraftTest-F.Not tests) = test.Not tests
 
+-- a test with its names found
 abbrev pub resolved_test : Entries → Entry → DraftTest → Test
 resolved_test entries from = fold-DraftTest Test (resolved_test_layer entries from)

@@ -36,6 +36,7 @@ exponent_part text = if is_some (position is_mark text) then exponent_of (after_
 abbrev pub whole_part : List ℕ → List ℕ
 whole_part text = before_first is_point (before_first is_mark text)
 
+-- the digits behind the point and before the exponent
 abbrev pub fraction_part : List ℕ → List ℕ
 fraction_part text = after_first is_point (before_first is_mark text)
 

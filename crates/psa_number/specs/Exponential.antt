@@ -29,6 +29,7 @@ unfoldable pub lower_term : ℕ → ℕ → ℕ
 lower_term p zero = units
 lower_term p (suc k) = lower_term p k * p / (suc k * units)
 
+-- the sum of the lower terms up to the k-th
 unfoldable pub lower_sum : ℕ → ℕ → ℕ
 lower_sum p zero = units
 lower_sum p (suc k) = lower_sum p k + lower_term p (suc k)
@@ -38,6 +39,7 @@ unfoldable pub upper_term : ℕ → ℕ → ℕ
 upper_term q zero = units
 upper_term q (suc k) = div_ceil (upper_term q k * q) (suc k * units)
 
+-- the sum of the upper terms up to the k-th
 unfoldable pub upper_sum : ℕ → ℕ → ℕ
 upper_sum q zero = units
 upper_sum q (suc k) = upper_sum q k + upper_term q (suc k)
@@ -72,6 +74,7 @@ greatest_place = MAX_PLACE
 abbrev pub lower_end : ℕ → ℕ
 lower_end sum = units - div_ceil (units * units) sum
 
+-- the upper end of the interval from the upper sum S: 1 - 1/S, rounded up
 abbrev pub upper_end : ℕ → ℕ
 upper_end sum = units - units * units / sum
 

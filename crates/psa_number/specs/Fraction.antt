@@ -17,15 +17,19 @@ pub record Holds (e : Ends) (f : Fraction) : Type 0 where
   pub low : (e.lo *ℤ pos f.den) ≤ℤ (f.num *ℤ pos units)
   pub high : (f.num *ℤ pos units) ≤ℤ (e.hi *ℤ pos f.den)
 
+-- the negative of a fraction
 abbrev pub minus : Fraction → Fraction
 minus x = record { num = neg_ℤ x.num; den = x.den }
 
+-- the sum of two fractions
 abbrev pub plus : Fraction → Fraction → Fraction
 plus x y = record { num = (x.num *ℤ pos y.den) +ℤ (y.num *ℤ pos x.den); den = x.den * y.den }
 
+-- the difference of two fractions
 abbrev pub difference : Fraction → Fraction → Fraction
 difference x y = record { num = (x.num *ℤ pos y.den) -ℤ (y.num *ℤ pos x.den); den = x.den * y.den }
 
+-- the product of two fractions
 abbrev pub times : Fraction → Fraction → Fraction
 times x y = record { num = x.num *ℤ y.num; den = x.den * y.den }
 
@@ -35,6 +39,7 @@ over x (pos zero) d = record { num = pos 0; den = 1 }
 over x (pos (suc m)) d = record { num = x.num *ℤ pos d; den = x.den * suc m }
 over x (negsuc m) d = record { num = neg_ℤ (x.num *ℤ pos d); den = x.den * suc m }
 
+-- the quotient of two fractions
 abbrev pub quotient : Fraction → Fraction → Fraction
 quotient x y = over x y.num y.den
 
@@ -46,6 +51,7 @@ held_in_unit x = record { num = int_max (pos 0) (int_min (pos x.den) x.num); den
 abbrev pub at_most_one : Fraction → Fraction
 at_most_one x = record { num = int_min (pos x.den) x.num; den = x.den }
 
+-- what a fraction leaves of 1
 abbrev pub one_minus : Fraction → Fraction
 one_minus x = record { num = pos x.den -ℤ x.num; den = x.den }
 

@@ -21,9 +21,11 @@ limited e = if is_limited e then Ok e else Err TooLarge
 abbrev pub negative_ends : Ends → Ends
 negative_ends a = record { lo = neg_ℤ a.hi; hi = neg_ℤ a.lo }
 
+-- the sum of two intervals
 abbrev pub sum_ends : Ends → Ends → Ends
 sum_ends a b = record { lo = a.lo +ℤ b.lo; hi = a.hi +ℤ b.hi }
 
+-- the difference of two intervals
 abbrev pub difference_ends : Ends → Ends → Ends
 difference_ends a b = record { lo = a.lo -ℤ b.hi; hi = a.hi -ℤ b.lo }
 
@@ -47,6 +49,7 @@ ceil_quotient n d = neg_ℤ (floor_quotient (neg_ℤ n) d)
 abbrev pub quotient_below : ℤ → ℤ → ℤ
 quotient_below x y = floor_quotient (x *ℤ pos units) y
 
+-- a quotient in units, rounded up
 abbrev pub quotient_above : ℤ → ℤ → ℤ
 quotient_above x y = ceil_quotient (x *ℤ pos units) y
 
@@ -103,6 +106,7 @@ abbrev pub magnitude_below : ℕ → ℤ → ℕ
 magnitude_below digits (pos up) = digits * 10 ^ up
 magnitude_below digits (negsuc down) = digits / 10 ^ suc down
 
+-- digits times a power of ten, rounded up
 abbrev pub magnitude_above : ℕ → ℤ → ℕ
 magnitude_above digits (pos up) = digits * 10 ^ up
 magnitude_above digits (negsuc down) = div_ceil digits (10 ^ suc down)
@@ -111,5 +115,6 @@ magnitude_above digits (negsuc down) = div_ceil digits (10 ^ suc down)
 abbrev pub positive_ends : ℕ → ℤ → Ends
 positive_ends digits scale = record { lo = pos (magnitude_below digits scale); hi = pos (magnitude_above digits scale) }
 
+-- the interval of a decimal, rounded outwards to units
 abbrev pub decimal_ends : Scaled → Ends
 decimal_ends d = if d.negative then negative_ends (positive_ends d.digits (d.exponent +ℤ pos 12)) else positive_ends d.digits (d.exponent +ℤ pos 12)

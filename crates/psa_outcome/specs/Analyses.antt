@@ -36,14 +36,17 @@ with_quantities settings expanded =
     if has_quantities settings then with_values settings expanded (values_of settings.mission expanded)
     else Ok (record { settings = settings; expanded = expanded; values = None })
 
+-- the analysis of a model with its events, or its first fault: of the number of events, of a value
 abbrev pub analysis_of_expanded : Settings → Expanded → Result Analysis ModelFault
 analysis_of_expanded settings expanded =
     unless (rank_fault expanded (targets_of expanded.model)) (λ u. with_quantities settings expanded)
 
+-- the analysis of a model, or its first fault: of paths, of the number of events, of a value
 abbrev pub analysis_of_model : Settings → Model → Result Analysis ModelFault
 analysis_of_model settings model =
     unless (walk_fault model) (λ u. analysis_of_expanded settings (expanded_of settings.ccf model))
 
+-- the analysis of a draft, or its first fault: of names first
 abbrev pub analysis_of_draft : Settings → Draft → Result Analysis ModelFault
 analysis_of_draft settings draft = unless (name_fault draft) (λ u. analysis_of_model settings (model_of draft))
 

@@ -15,10 +15,12 @@ use Rattle.psa_model.specs.Report.{Analysis}
 
 -- ---- the input
 
+-- the input is files
 abbrev pub IsFiles : Input → Type 0
 IsFiles (Files names) = ⊤
 IsFiles (Sample n) = ⊥
 
+-- the input is the sample
 abbrev pub IsSample : Input → Type 0
 IsSample (Files names) = ⊥
 IsSample (Sample n) = ⊤

@@ -38,6 +38,7 @@ text_fault_kind text.BadMarkup = fault.BadMarkup
 text_fault_kind text.LongToken = fault.LongToken
 text_fault_kind text.BadNesting = fault.BadNesting
 
+-- the fault of a text, as that of a file of the model
 abbrev pub text_fault_in : ℕ → TextFault → ModelFault
 text_fault_in file found = record { kind = text_fault_kind found.kind; file = file; line = found.line; name = [] }
 

@@ -52,6 +52,7 @@ IsSource Bdd CutSets analysis target =
 IsSource Bdd Primes analysis target =
     IsPrimeOfCofactors (ranked_truth analysis.expanded target) analysis.settings.limit_order
 
+-- what a node of a family of a target may come from, by the settings' algorithm and mode
 abbrev pub IsSourceOf : Analysis → Target → List ℕ → Type 0
 IsSourceOf analysis target = IsSource analysis.settings.algorithm analysis.settings.mode analysis target
 
@@ -105,6 +106,7 @@ abbrev pub AreDifferentReadings : List NodeReading → Type 0
 AreDifferentReadings [] = ⊤
 AreDifferentReadings (one ∷ more) = All (IsDifferentReading one) more × AreDifferentReadings more
 
+-- a node comes from one of these targets
 abbrev pub HasOrigin : Analysis → List Target → NodeReading → Type 0
 HasOrigin analysis targets one = OriginIn analysis targets one.kind one.var one.reads
 

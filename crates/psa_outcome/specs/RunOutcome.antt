@@ -35,15 +35,19 @@ exit_of OutOfMemory = 5
 abbrev pub file_name : Settings → ℕ → List ℕ
 file_name settings file = unwrap_or (slice_get (names_of settings.input) file) []
 
+-- the line where a file could not be read
 abbrev pub unread_line : List ℕ → List ℕ
 unread_line file = codes "scram: cannot read " ++ file ++ codes "\n"
 
+-- the line where standard output failed
 abbrev pub unwritten_line : List ℕ
 unwritten_line = codes "scram: cannot write\n"
 
+-- the line where the node limit stopped the run at a target
 abbrev pub node_limit_line : ℕ → List ℕ
 node_limit_line number = codes "scram: node limit at target " ++ decimal number ++ codes "\n"
 
+-- the line where memory was wanting
 abbrev pub out_of_memory_line : List ℕ
 out_of_memory_line = codes "scram: out of memory\n"
 
@@ -54,6 +58,7 @@ pub record IsFinished (run : Run) (table : Table) (analysis : Analysis) : Type 0
   pub reported : Reported analysis run.before run.after
   pub own_table : analysis.settings.validate ≡ false → (all_targets analysis ≡ [] → ⊥) → IsOwnTable analysis table
 
+-- the report was written whole
 pub record DoneRow (settings : Settings) (run : Run) (table : Table) (line : List ℕ) : Type 0 where
   pub silent : line ≡ []
   pub finished : Analysed settings run.told (IsFinished run table)
@@ -74,6 +79,7 @@ pub record ReadFaultRow (settings : Settings) (run : Run) (line : List ℕ) : Ty
   pub cause : IsUnread settings run.told run.rest number
   pub spelled : line ≡ unread_line cause.file
 
+-- standard output failed, and a prefix of the report was written
 pub record WriteFaultRow (IsText : Texts) (settings : Settings) (run : Run) (line : List ℕ) : Type 0 where
   pub rose : WriteRose run
   pub writes : settings.validate ≡ false
@@ -98,6 +104,7 @@ pub record IsStopped (analysis : Analysis) (number : ℕ) (table : Table) (tripl
   pub from_target : Origin analysis target triple.kind triple.var (node_reading table.nodes triple)
   pub reported : ReportedFirst analysis (length earlier) before after
 
+-- a node was refused at the limit, and the head and the sections before that target were written
 pub record NodeLimitRow (settings : Settings) (run : Run) (table : Table) (number : ℕ) (line : List ℕ) : Type 0 where
   pub from_one : 0 < number
   pub writes : settings.validate ≡ false
@@ -115,6 +122,7 @@ pub record IsBetween (IsText : Texts) (analysis : Analysis) (before after : Opti
 abbrev pub IsBetweenSections : Analysis → Option (List ℕ) → Option (List ℕ) → Type 0
 IsBetweenSections = IsBetween IsReport
 
+-- memory was wanting, and nothing was written, or the head and the sections before some target
 pub record OutOfMemoryRow (IsText : Texts) (settings : Settings) (run : Run) (line : List ℕ) : Type 0 where
   pub reported : (run.after ≡ run.before) ⊎ Analysed settings run.told (λ analysis. IsBetween IsText analysis run.before run.after)
   pub spelled : line ≡ out_of_memory_line
@@ -180,6 +188,7 @@ abbrev pub HasAnalysis : Settings → Run → (Analysis → Type 0) → Type 0
 HasAnalysis settings run P =
     IsSomeAnd run.told (λ files. (analysis : Analysis) × IsAnalysis settings (names_of settings.input) files analysis × P analysis)
 
+-- that a run ends as its input says, where no file and no sink fails; want of memory alone may come in between
 pub record Completeness (settings : Settings) (run : Run) (status : Status) : Type 0 where
   -- without read faults a first fault is told
   pub refused : (ReadRose run → ⊥) → HasFault settings run → (status ≡ BadModel) ⊎ (status ≡ OutOfMemory)

@@ -17,6 +17,7 @@ use Rattle.psa_outcome.specs.Inputs.{Told}
 use Rattle.psa_outcome.specs.Origins.{AllFrom, is_by_graph}
 use Rattle.psa_model.specs.Report.{Analysis, IsReport, IsProductOf}
 
+-- what a run had, and what it left
 pub record Run : Type 0 where
   -- the files that are told, what is left of the one that was opened last, and by how many the opens rose
   pub told : Option Told
@@ -41,9 +42,11 @@ run_of settings told rest opened folder_faults out_faults before after = record 
   after = after;
 }
 
+-- the folder's count of faults rose
 abbrev pub ReadRose : Run → Type 0
 ReadRose run = Rose run.folder_faults.0 run.folder_faults.1
 
+-- the sink's count of faults rose
 abbrev pub WriteRose : Run → Type 0
 WriteRose run = Rose run.out_faults.0 run.out_faults.1
 
@@ -95,6 +98,7 @@ Reported = Wrote IsReport
 abbrev pub ReportedPart : Analysis → Option (List ℕ) → Option (List ℕ) → Type 0
 ReportedPart = WrotePart IsReport
 
+-- out grew by the head and the sections of so many first targets
 abbrev pub ReportedFirst : Analysis → ℕ → Option (List ℕ) → Option (List ℕ) → Type 0
 ReportedFirst = WroteFirst IsReport
 

@@ -13,11 +13,13 @@ train_gate i =
     codes "<define-gate name=\"t" ++ decimal i ++ codes "\"><or><basic-event name=\"a" ++ decimal i
     ++ codes "\"/><basic-event name=\"b" ++ decimal i ++ codes "\"/></or></define-gate>\n"
 
+-- the definition of an event of the sample
 abbrev pub event_definition : List ℕ → ℕ → List ℕ → List ℕ
 event_definition letter i quantity =
     codes "<define-basic-event name=\"" ++ letter ++ decimal i ++ codes "\"><float value=\"" ++ quantity
     ++ codes "\"/></define-basic-event>\n"
 
+-- the definitions of a train of the sample: its gate and its two events
 abbrev pub train_definitions : ℕ → List ℕ
 train_definitions i =
     train_gate i ++ event_definition (codes "a") i (codes "0.001") ++ event_definition (codes "b") i (codes "0.0002")

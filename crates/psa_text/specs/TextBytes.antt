@@ -12,9 +12,11 @@ AllPass test xs = AllByRecursion (λ x. test x ≡ true) xs
 abbrev pub is_blank : ℕ → Bool
 is_blank b = (b == space) || (b == tab) || (b == carriage_return) || (b == line_feed)
 
+-- all bytes are blank
 abbrev pub AreBlanks : List ℕ → Type 0
 AreBlanks bytes = AllPass is_blank bytes
 
+-- a decimal digit
 abbrev pub is_digit : ℕ → Bool
 is_digit b = nat_le digit_zero b && nat_le b digit_nine
 
@@ -22,9 +24,11 @@ is_digit b = nat_le digit_zero b && nat_le b digit_nine
 abbrev pub is_name_start : ℕ → Bool
 is_name_start b = (nat_le lower_a b && nat_le b lower_z) || (nat_le upper_a b && nat_le b upper_z) || (b == underscore) || (b == colon) || nat_le first_beyond_ascii b
 
+-- a byte of a name behind its first
 abbrev pub is_name_byte : ℕ → Bool
 is_name_byte b = is_name_start b || is_digit b || (b == hyphen) || (b == full_stop)
 
+-- a name of the markup: a first byte, then bytes of names
 abbrev pub IsName : List ℕ → Type 0
 IsName [] = ⊥
 IsName (b ∷ bs) = (is_name_start b ≡ true) × AllPass is_name_byte bs
@@ -54,6 +58,7 @@ trimmed_front (b ∷ bs) = if b == space then trimmed_front bs else b ∷ bs
 abbrev pub trimmed_end : List ℕ → List ℕ
 trimmed_end bytes = reverse (trimmed_front (reverse bytes))
 
+-- without the spaces at both ends
 abbrev pub trimmed : List ℕ → List ℕ
 trimmed bytes = trimmed_end (trimmed_front bytes)
 
@@ -61,6 +66,7 @@ trimmed bytes = trimmed_end (trimmed_front bytes)
 abbrev pub is_digit_of : ℕ → ℕ → Bool
 is_digit_of base b = is_digit b || ((base == 16) && ((nat_le lower_a b && nat_le b lower_f) || (nat_le upper_a b && nat_le b upper_f)))
 
+-- the value of a decimal or hexadecimal digit
 abbrev pub digit_of : ℕ → ℕ
 digit_of b = if nat_le b digit_nine then b - digit_zero else if nat_le b upper_f then b - upper_a + 10 else b - lower_a + 10
 

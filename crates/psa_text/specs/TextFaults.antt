@@ -28,10 +28,12 @@ abbrev pub behind_two : List ℕ → List ℕ
 behind_two [] = []
 behind_two (b ∷ bs) = if b == third_mark_byte then bs else first_mark_byte ∷ second_mark_byte ∷ b ∷ bs
 
+-- what is left behind the first byte of a mark
 abbrev pub behind_one : List ℕ → List ℕ
 behind_one [] = []
 behind_one (b ∷ bs) = if b == second_mark_byte then behind_two bs else first_mark_byte ∷ b ∷ bs
 
+-- a text without a byte order mark at its front
 abbrev pub unmarked : List ℕ → List ℕ
 unmarked [] = []
 unmarked (b ∷ bs) = if b == first_mark_byte then behind_one bs else b ∷ bs
@@ -85,6 +87,7 @@ begins_element Instruction = false
 abbrev pub element_count : List Placed → ℕ
 element_count items = count_by (λ placed. begins_element placed.0) items
 
+-- a fault of a kind, in a line
 abbrev pub fault : TextKind → ℕ → TextFault
 fault kind line = record { kind = kind; line = line }
 

@@ -46,6 +46,7 @@ pub record IsOpening (quote : ℕ) (name bytes : List ℕ) : Type 0 where
   pub is_quote : is_quote quote ≡ true
   pub spelled : bytes ≡ blanks ++ name ++ before ++ (equals_sign ∷ after) ++ (quote ∷ [])
 
+-- a tag with one attribute more
 abbrev pub with_attribute : Tag → List ℕ → List ℕ → Tag
 with_attribute tag name value = record tag { attributes = tag.attributes ++ ((record { name = name; value = trimmed value }) ∷ []) }
 

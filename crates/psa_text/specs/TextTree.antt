@@ -43,6 +43,7 @@ abbrev pub is_before_root : Placed → Bool
 is_before_root (Doctype, line) = true
 is_before_root (item, line) = is_passed false item
 
+-- an item that may stand behind the root
 abbrev pub is_behind_root : Placed → Bool
 is_behind_root (item, line) = is_passed false item
 

@@ -20,17 +20,21 @@ use Rattle.psa_words.specs.Options.{Setting, name_of, options, bdd, zbdd, prime_
 
 -- ---- the items, by option
 
+-- the option that an item gives, where it gives one
 abbrev pub item_setting : Item Setting → Option Setting
 item_setting (flag setting) = Some setting
 item_setting (valued setting text) = Some setting
 item_setting (file text) = None
 
+-- two options are the same
 abbrev pub is_same : Setting → Setting → Bool
 is_same a b = bytes_eq (name_of a) (name_of b)
 
+-- an item gives this option
 abbrev pub is_use_of : Setting → Item Setting → Bool
 is_use_of setting item = option_map_or (is_same setting) (item_setting item) false
 
+-- an option is given
 abbrev pub has_option : Setting → List (Item Setting) → Bool
 has_option setting items = list_any (is_use_of setting) items
 
@@ -40,13 +44,16 @@ has_repeat [] = false
 has_repeat (item ∷ items) =
     option_map_or (λ setting. has_option setting items) (item_setting item) false || has_repeat items
 
+-- the value that an item gives
 abbrev pub item_value : Item Setting → Option Text
 item_value (valued setting text) = Some text
 item_value _ = None
 
+-- the value that is given to an option
 abbrev pub value_in : Setting → List (Item Setting) → Option Text
 value_in setting items = option_and_then item_value (find (is_use_of setting) items)
 
+-- the files, in order
 abbrev pub files_in : List (Item Setting) → List Text
 files_in [] = []
 files_in (file text ∷ items) = text ∷ files_in items
@@ -68,6 +75,7 @@ pub record Given : Type 0 where
   pub sample_text : Option Text
   pub file_names : List Text
 
+-- what a list of items gives
 abbrev pub given_by : List (Item Setting) → Given
 given_by items = record {
   has_bdd = has_option bdd items;
@@ -98,19 +106,23 @@ abbrev pub is_whole_number : Text → Bool
 is_whole_number text =
     nat_le 1 (length text) && nat_le (length text) MAX_DIGITS && list_all is_ascii_digit text
 
+-- the whole number that a text spells, where it is within two bounds
 abbrev pub whole_between : ℕ → ℕ → Text → Option ℕ
 whole_between least most text =
     if is_whole_number text && nat_le least (digits_value 10 text) && nat_le (digits_value 10 text) most
     then Some (digits_value 10 text) else None
 
+-- a decimal of at least 0; -0 is one
 abbrev pub is_not_below_zero : Scaled → Bool
 is_not_below_zero decimal = not decimal.negative || decimal.digits == 0
 
+-- the decimal that a text spells, where it passes a test
 abbrev pub decimal_that : (Scaled → Bool) → Text → Option Scaled
 decimal_that test text =
     option_and_then (λ decimal. if test decimal then Some decimal else None)
     (result_ok (decimal_of text))
 
+-- a decimal of 0 to 1
 abbrev pub is_fraction : Scaled → Bool
 is_fraction decimal = is_not_below_zero decimal && is_within 1 decimal.digits decimal.exponent
 
@@ -119,18 +131,21 @@ abbrev pub value_or : {X : Type 0} → X → (Text → Option X) → Option Text
 value_or default value None = Some default
 value_or default value (Some text) = value text
 
+-- the value that an option's text gives, None where it is not given; nothing at all for a text that gives none
 abbrev pub optional_value : {X : Type 0} → (Text → Option X) → Option Text → Option (Option X)
 optional_value value None = Some None
 optional_value value (Some text) = option_map Some (value text)
 
 -- ---- settings
 
+-- the input: 1 to 16 files, or a sample and no file
 abbrev pub input_of : Option Text → List Text → Option Input
 input_of None names =
     if nat_le 1 (length names) && nat_le (length names) MAX_FILES then Some (Files names) else None
 input_of (Some text) [] = option_map Sample (whole_between MIN_SAMPLE MAX_SAMPLE text)
 input_of (Some text) (name ∷ names) = None
 
+-- two options that exclude each other are given
 abbrev pub has_conflict : Given → Bool
 has_conflict given =
     (given.has_bdd && given.has_zbdd)
@@ -141,6 +156,7 @@ has_conflict given =
 abbrev pub default_mission : Scaled
 default_mission = record { negative = false; digits = DEFAULT_MISSION_TIME; exponent = pos 0 }
 
+-- the settings of what is given, with the values of the options
 abbrev pub settings_with : Given → ℕ → Option Scaled → Scaled → Option ℕ → Input → Settings
 settings_with given limit cut mission nodes input = record {
   algorithm = if given.has_zbdd then Zbdd else Bdd;
@@ -160,6 +176,7 @@ infixl 10 ◌>>=◌
 abbrev pub ◌>>=◌ : {A B : Type 0} → Option A → (A → Option B) → Option B
 x >>= f = option_and_then f x
 
+-- the settings of what is given, where each value is one that its option takes
 abbrev pub values_of : Given → Option Settings
 values_of given =
     value_or DEFAULT_LIMIT_ORDER (whole_between 1 MAX_LIMIT_ORDER) given.limit_order_text >>= (λ limit.
@@ -169,6 +186,7 @@ values_of given =
     input_of given.sample_text given.file_names >>= (λ input.
     Some (settings_with given limit cut mission nodes input))))))
 
+-- the settings of what is given, where no two options exclude each other
 unfoldable pub settings_from : Given → Option Settings
 settings_from given = if has_conflict given then None else values_of given
 

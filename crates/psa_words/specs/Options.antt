@@ -4,6 +4,7 @@ use Rattle.std.specs.List.{find}
 use Rattle.std.specs.Str.{bytes_eq}
 use Rattle.psa_words.specs.Reading.{Table, Text}
 
+-- the options of the program
 pub data Setting : Type 0 where
   bdd : Setting
   zbdd : Setting
@@ -18,6 +19,7 @@ pub data Setting : Type 0 where
   node_limit : Setting
   sample : Setting
 
+-- all options
 abbrev pub every_setting : List Setting
 every_setting =
     bdd ∷ zbdd ∷ prime_implicants ∷ rare_event ∷ mcub ∷ ccf ∷ validate
@@ -42,6 +44,7 @@ spelling_of sample = codes "--sample"
 abbrev pub name_of : Setting → Text
 name_of setting = drop 2 (spelling_of setting)
 
+-- whether an option takes a value
 abbrev pub takes_value : Setting → Bool
 takes_value bdd = false
 takes_value zbdd = false
@@ -64,8 +67,10 @@ letter_l = 108
 abbrev pub setting_of_short : ℕ → Option Setting
 setting_of_short byte = if byte == letter_l then Some limit_order else None
 
+-- the option of a long name
 abbrev pub setting_of_long : Text → Option Setting
 setting_of_long name = find (λ setting. bytes_eq (name_of setting) name) every_setting
 
+-- the table of options by which the words are read
 unfoldable pub options : Table Setting
 options = record { long_name = setting_of_long; short_name = setting_of_short; takes_value = takes_value }
