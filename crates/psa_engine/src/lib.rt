@@ -5,9 +5,9 @@ mod end;
 mod run;
 mod telling;
 
+pub use end::End;
 pub use psa_load::{load, sample_text};
 pub use psa_outcome::{LoadError, Loaded, Status};
 pub use psa_words::{WordsError, read_words};
-pub use end::End;
 pub use run::{analyse_words, pass_on, refuse_model};
 pub use telling::{refuse, tell};

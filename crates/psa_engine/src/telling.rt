@@ -26,7 +26,12 @@ pub fn refuse<E: Sink>(err: &mut E, program: &str, error: WordsError) -> Status
         WordsError::BadWords => {
             let _ = put_all(
                 err,
-                &["scram: bad words\n", "usage: ", program, " [options] FILE...\n"],
+                &[
+                    "scram: bad words\n",
+                    "usage: ",
+                    program,
+                    " [options] FILE...\n",
+                ],
             );
             Status::BadWords
         }
