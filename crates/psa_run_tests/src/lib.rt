@@ -8,6 +8,8 @@ mod cut;
 #[cfg(test)]
 mod devices;
 #[cfg(test)]
+mod examples;
+#[cfg(test)]
 mod formulas;
 #[cfg(test)]
 mod limits;

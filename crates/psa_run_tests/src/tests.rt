@@ -4,6 +4,7 @@ use crate::devices::{
     IN_BLOCKS, UNREAD, UNTOLD, UNWRITTEN_BLOCKS, wrong_calls, wrong_rooms, wrong_second_write,
     wrong_writes,
 };
+use crate::examples::EXAMPLES;
 use crate::formulas::{FORMULAS, WHOLE};
 use crate::limits::LIMITS;
 use crate::nodes::wrong_limit;
@@ -29,6 +30,7 @@ fn runs(rt: HostRuntime) {
         ORDER,
         WORDS,
         LIMITS,
+        EXAMPLES,
     ] {
         assert_eq!(rt; wrong_cases(rt.alloc(), cases, &SOUND).as_str(), "");
     }
