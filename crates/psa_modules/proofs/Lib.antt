@@ -1,0 +1,6 @@
+pub mod TestLemmas
+pub mod LeastLemmas
+pub mod SubstitutionLemmas
+pub mod LengthLemmas
+pub mod LoneLemmas
+pub mod TrainLemmas

@@ -1,0 +1,11 @@
+//! Modules of fault trees: that the minimal cut sets of the whole are those of its quotient, with a
+//! minimal cut set put for each module. No program calls it yet. The laws are the contracts of
+//! functions with empty bodies.
+#![tactic(auto)]
+
+mod laws;
+
+pub use laws::{
+    cut_sets_are_substitutions, lone_events_are_modules, substitutions_are_determined,
+    substitutions_are_longest, two_trains_fail,
+};
