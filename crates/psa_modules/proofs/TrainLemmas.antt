@@ -1,12 +1,14 @@
--- The worked example: the minimal cut sets of both trains.
+-- The worked example: the minimal cut sets of both trains, and what comes from them.
 use Rattle.std.proofs.Common.{◌≡◌, ℕ, Bool, true, List, [], ◌∷◌, ◌&&◌, ◌||◌, refl, sym, ap, subst, ◌∙◌, inl, inr}
 use Rattle.std.proofs.lemmas.Bool.{false≢true, and_parts, or_cases}
+use Rattle.std.proofs.lemmas.Bool.Decides.{eqb_tells}
 use Rattle.psa_logic.specs.Sets.{is_ascending, occurs, Has}
 use Rattle.psa_logic.specs.Products.{IsMinimalCutSet}
 use Rattle.psa_logic.proofs.PartLemmas.{occurs-has, part-from_has}
-use Rattle.psa_modules.specs.Modules.{whole}
+use Rattle.psa_modules.specs.Modules.{whole, AreFalseAtNone, IsSubstitution}
 use Rattle.psa_modules.specs.TwoTrains.{train_of, train_fails, both_fail, four_sets}
 use Rattle.psa_modules.proofs.TestLemmas.{IsBelow, minimal-from}
+use Rattle.psa_modules.proofs.SubstitutionLemmas.{comes, gives}
 
 -- two events that are a cut set, each of which any cut set of them needs, are a minimal one
 pair-minimal : (f : (ℕ → Bool) → Bool) (a b : ℕ) → is_ascending (a ∷ b ∷ []) ≡ true → f (occurs (a ∷ b ∷ [])) ≡ true
@@ -110,3 +112,21 @@ four-minimal set h = elim h [
     ]
   ]
 ]
+
+-- no train fails where no event occurs
+none-fails : AreFalseAtNone train_fails
+none-fails train = elim (eqb_tells train 4) [
+  | inl p ↦ rw p.0 refl
+  | inr p ↦ elim (eqb_tells train 5) [ inl q ↦ rw (p.0, q.0) refl | inr q ↦ rw (p.0, q.0) refl ]
+]
+
+-- what comes from both trains is one of the four
+pub puts-only : (set : List ℕ) → IsSubstitution train_of train_fails (4 ∷ 5 ∷ []) set → Has four_sets set
+puts-only set put =
+    four-only set (gives train_of train_fails both_fail set none-fails (4 ∷ 5 ∷ []) trains-minimal put)
+
+-- each of the four comes from both trains
+pub puts-each : (set : List ℕ) → Has four_sets set → IsSubstitution train_of train_fails (4 ∷ 5 ∷ []) set
+puts-each set h =
+    let from = comes train_of train_fails both_fail set none-fails (four-minimal set h) in
+    subst (λ trains. IsSubstitution train_of train_fails trains set) (trains-only from.0 from.1) from.2

@@ -1,14 +1,14 @@
 -- Modules of fault trees (Dutuit and Rauzy): parts that share no event with the rest, so that the whole sees of each
 -- only whether its truth holds. What stands here, and the law of substitution in laws.rt, is this project's own.
 -- The events are parted among modules. A module is known by the number of the event that stands for it in the
--- quotient, which is the truth that sees modules alone. An event that no other shares a part with is a module too,
--- whose truth is that it occurs. `module_of` gives the module of an event, `truth_of` the truth of a module.
+-- quotient, the truth that sees modules alone. An event that belongs to no module proper is a module of its own, whose
+-- truth is that it occurs. `module_of` gives the module of an event, `truth_of` the truth of a module.
 use Rattle.std.specs.Prelude.{◌≡◌, ◌==◌, ℕ, Bool, true, false, List, ◌&&◌}
 use Rattle.std.specs.List.{filter}
 use Rattle.psa_logic.specs.Sets.{is_ascending, occurs}
 use Rattle.psa_logic.specs.Products.{IsMinimalCutSet}
 
--- of the events that occur, those that belong to the module
+-- of the events that occur, those that belong to the module m
 abbrev pub within : (ℕ → ℕ) → ℕ → (ℕ → Bool) → ℕ → Bool
 within module_of m s event = (module_of event == m) && s event
 

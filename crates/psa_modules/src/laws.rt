@@ -63,10 +63,12 @@ pub fn lone_events_are_modules()
         → (event : ℕ) → occurs set event ≡ true → inside event ≡ true }
 {}
 
-/// A system of two trains, each of a pump and a valve, that fails where both do: four minimal cut
-/// sets, which come from one of the quotient.
+/// A system of two trains, each of a pump and a valve, that fails where both do: the one minimal cut
+/// set of the quotient, the four sets that come from it, and the same four as those of the system.
 pub fn two_trains_fail()
     ensures trains { (modules : List ℕ) → IsMinimalCutSet both_fail modules ↔ (modules ≡ 4 ∷ 5 ∷ []) }
+    ensures puts { (set : List ℕ)
+        → IsSubstitution train_of train_fails (4 ∷ 5 ∷ []) set ↔ Has four_sets set }
     ensures cut_sets { (set : List ℕ)
         → IsMinimalCutSet (whole train_of train_fails both_fail) set ↔ Has four_sets set }
 {}
