@@ -1,4 +1,4 @@
-ghost use Rattle.std.specs.Prelude.{◌≡◌, ◌<◌, ◌≤◌, ◌^◌, ◌++◌, ◌&&◌, ℕ, List, Bool, true, Some, IfSome, IsSome, codes, decimal, min, length};
+ghost use Rattle.std.specs.Prelude.{◌≡◌, ◌<◌, ◌≤◌, ◌^◌, ◌++◌, ◌&&◌, ℕ, List, Bool, true, Some, IfSome, codes, decimal, min, length};
 ghost use Rattle.std.specs.List.{All, filter, slice_get};
 ghost use Rattle.psa_logic.specs.Products.{IsListing};
 ghost use Rattle.psa_model.specs.declared.targets.Target.{Target as TargetValue};
@@ -228,8 +228,8 @@ fn write_section<S: Sink, L: Ledger>(
 
 /// Writes the section of a target: its line; for each event that stands, with either sign, in some kept product,
 /// by rank, a line with its name, the number of the kept products that hold it, held at `MAX_COUNT`, and the sum of
-/// their bounds, held at 1; the count of the kept products and the total that is asked for. `target` is the target's
-/// place, and the root reads as its products. It takes no memory.
+/// their bounds, held at 1; the count of the kept products and the total that is asked for. Without intervals of the
+/// events all sums are 0. `target` is the target's place, and the root reads as its products. It takes no memory.
 /// Refuses only where the sink does; a prefix of the section was written then.
 pub fn write_shares<S: Sink>(
     out: &mut S,
@@ -240,7 +240,6 @@ pub fn write_shares<S: Sink>(
 ) -> Result<(), WriteFault>
     requires loaded { IsLoaded loaded.now }
     requires order { loaded.now.settings.limit_order ≤ MAX_ORDER }
-    requires values { IsSome loaded.now.values }
     requires target { target < length loaded.now.targets }
     requires products { (its : TargetValue) → slice_get loaded.now.targets target ≡ Some its
         → IsNodeOfProducts (loaded_analysis loaded.now) its table.now root.0 }
