@@ -1,2 +1,4 @@
 pub mod Shares
 pub mod Subjects
+pub mod ShareText
+pub mod TextEnds

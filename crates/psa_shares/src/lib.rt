@@ -2,6 +2,9 @@
 //! stands, and the sum of their bounds.
 #![tactic(auto)]
 
+mod run;
 mod section;
+mod text;
 
+pub use run::share_words;
 pub use section::write_shares;

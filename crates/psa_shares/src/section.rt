@@ -1,4 +1,4 @@
-ghost use Rattle.std.specs.Prelude.{◌≡◌, ◌<◌, ◌≤◌, ◌^◌, ◌++◌, ◌&&◌, ℕ, List, Bool, true, Some, IfSome, IsSome, codes, decimal, min, length};
+ghost use Rattle.std.specs.Prelude.{◌≡◌, ◌<◌, ◌≤◌, ◌^◌, ◌++◌, ◌&&◌, ℕ, List, Bool, true, Some, IfSome, codes, decimal, min, length};
 ghost use Rattle.std.specs.List.{All, filter, slice_get};
 ghost use Rattle.psa_logic.specs.Products.{IsListing};
 ghost use Rattle.psa_model.specs.declared.targets.Target.{Target as TargetValue};
@@ -22,7 +22,7 @@ use psa_model::{MAX_COUNT, MAX_ORDER, Product, Ranks, Target};
 use psa_nodes::{NodeId, NodeTable, Steps};
 use psa_outcome::Loaded;
 use psa_ports::Sink;
-use psa_products::{Listing, Rule, Totals};
+use psa_products::{Lister, Rule, Totals};
 use psa_report::{WriteFault, put_all, put_interval, put_ranked, write_target, write_totals};
 use psa_sections::{counted_bound, least_end, product_bound, reaches};
 use std::marker::Brand;
@@ -50,19 +50,19 @@ fn holds(product: &Product, rank: u32) -> bool
     false
 }
 
-/// The totals of the products of a listing.
+/// The totals of the products that a lister still gives.
 fn sum_listed<R: Rule, L: Ledger>(
     subject: &Subject<'_>,
-    listing: &mut Listing<'_, R>,
+    lister: &mut Lister<'_, R>,
     steps: &mut Steps<L>,
 ) -> Totals
     requires { IfSome subject.now.loaded.now.values (All IsInUnit) }
-    ensures { result ≡ totals_by subject.now.loaded.now.values subject.now.ranks.now listing.old }
+    ensures { result ≡ totals_by subject.now.loaded.now.values subject.now.ranks.now lister.old.rest }
 {
     let mut totals = Totals::new();
-    let mut product = Product::new();
-    while listing.next_into(&mut product, steps) {
-        let bound = product_bound(&subject.loaded.values, subject.ranks, &product);
+    while lister.advance(steps) {
+        let product = lister.product();
+        let bound = product_bound(&subject.loaded.values, subject.ranks, product);
         totals.take(counted_bound(&bound));
     }
     totals
@@ -81,13 +81,13 @@ fn totals_of<R: Rule, L: Ledger>(subject: &Subject<'_>, rule: R, steps: &mut Ste
         × (keeps set ≡ true)) kept
         × (result ≡ totals_by subject.now.loaded.now.values subject.now.ranks.now kept) }
 {
-    let mut listing = Listing::new(
+    let mut lister = Lister::new(
         subject.table,
         subject.root,
         subject.loaded.settings.limit_order,
         rule,
     );
-    sum_listed(subject, &mut listing, steps)
+    sum_listed(subject, &mut lister, steps)
 }
 
 /// The totals of the kept products that hold the event with a rank.
@@ -228,8 +228,8 @@ fn write_section<S: Sink, L: Ledger>(
 
 /// Writes the section of a target: its line; for each event that stands, with either sign, in some kept product,
 /// by rank, a line with its name, the number of the kept products that hold it, held at `MAX_COUNT`, and the sum of
-/// their bounds, held at 1; the count of the kept products and the total that is asked for. `target` is the target's
-/// place, and the root reads as its products. It takes no memory.
+/// their bounds, held at 1; the count of the kept products and the total that is asked for. Without intervals of the
+/// events all sums are 0. `target` is the target's place, and the root reads as its products. It takes no memory.
 /// Refuses only where the sink does; a prefix of the section was written then.
 pub fn write_shares<S: Sink>(
     out: &mut S,
@@ -240,7 +240,6 @@ pub fn write_shares<S: Sink>(
 ) -> Result<(), WriteFault>
     requires loaded { IsLoaded loaded.now }
     requires order { loaded.now.settings.limit_order ≤ MAX_ORDER }
-    requires values { IsSome loaded.now.values }
     requires target { target < length loaded.now.targets }
     requires products { (its : TargetValue) → slice_get loaded.now.targets target ≡ Some its
         → IsNodeOfProducts (loaded_analysis loaded.now) its table.now root.0 }
