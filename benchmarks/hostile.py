@@ -1,12 +1,13 @@
 #!/usr/bin/env python3
-"""Times `scram --validate` on models of a million elements that are hard on a reader or on look-ups.
+"""Times `scram --validate` on models of a million elements that are hard on a reader or on look-ups, and whole
+runs over event trees of 65,536 paths.
 
     benchmarks/hostile.py [PROGRAM [ELEMENTS]]
 
-PROGRAM is ./scram if left out, and ELEMENTS, of each file, 1,000,000, the most that a file may have. Each line
-has the seconds of processor, the memory at most, the exit status and what was said. The script fails where a
-model takes 10 seconds or more or has another answer than the one that is wanted (a killed program has a status
-below 0).
+PROGRAM is ./scram if left out, and ELEMENTS, of each large file, 1,000,000, the most that a file may have. Each
+line has the seconds of processor, the memory at most, the exit status and what was said at the end. The script
+fails where a model takes 10 seconds or more, or a whole run one second or more, or has another answer than the
+one that is wanted (a killed program has a status below 0).
 """
 import os
 import subprocess
@@ -14,6 +15,7 @@ import sys
 import tempfile
 
 LIMIT = 10
+LIMIT_OF_RUN = 1
 ROOT = os.path.dirname(os.path.dirname(os.path.abspath(__file__)))
 SIZE = int(sys.argv[2]) - 20 if len(sys.argv) > 2 else 999_980
 HALF = SIZE // 2  # definitions of two elements
@@ -82,18 +84,52 @@ def models():
     yield "labels", [tree(["<label>a</label>"] * SIZE)], ""
 
 
-def run(program, folder, files):
+def settings(*houses):
+    """Each house event is set, to the state that is given."""
+    return "".join(f'<set-house-event name="h{i}"><constant value="{state}"/></set-house-event>' for i, state in houses)
+
+
+def forks(one, other, levels=16, gates=200):
+    """Forks one after another, each of which sets house events in two ways; then one formula is collected."""
+    yield '<opsa-mef><define-initiating-event name="I" event-tree="E"/><define-event-tree name="E">'
+    yield from (f'<define-functional-event name="X{i}"/>' for i in range(levels))
+    yield '<define-sequence name="S"/>'
+    for i in range(levels):
+        to = f'<branch name="b{i + 1}"/>'
+        yield (f'<define-branch name="b{i}"><fork functional-event="X{i}"><path state="one">{one(i)}{to}</path>'
+               f'<path state="other">{other(i)}{to}</path></fork></define-branch>')
+    yield f'<define-branch name="b{levels}"><collect-formula><gate name="g0"/></collect-formula><sequence name="S"/></define-branch>'
+    yield '<initial-state><branch name="b0"/></initial-state></define-event-tree><define-fault-tree name="F">'
+    for i in range(gates):
+        to = f'<gate name="g{i + 1}"/>' if i + 1 < gates else '<house-event name="h0"/>'
+        yield f'<define-gate name="g{i}"><or><basic-event name="e{i}"/>{to}</or></define-gate>{event(f"e{i}")}'
+    yield from (f'<define-house-event name="h{i}"/>' for i in range(2 * levels))
+    yield "</define-fault-tree></opsa-mef>"
+
+
+def trees():
+    """Each event tree of 65,536 paths: its name, the lines of its files, and the end of the report."""
+    yield "house events set and reset", [forks(lambda i: settings((i, "true"), (i, "false")), lambda i: "")], "count 200"
+    yield "house events set in two orders", [forks(lambda i: settings((2 * i, "true"), (2 * i + 1, "true")),
+                                                   lambda i: settings((2 * i + 1, "true"), (2 * i, "true")))], "count 1"
+
+
+def run(program, folder, options, files):
     words = []
     for place, lines in enumerate(files):
         path = os.path.join(folder, f"{place}.xml")
         with open(path, "w") as out:
             out.writelines(line + "\n" for line in lines)
         words.append(path)
-    process = subprocess.Popen([program, "--validate", *words], stdout=subprocess.PIPE, stderr=subprocess.STDOUT)
+    process = subprocess.Popen([program, *options, *words], stdout=subprocess.PIPE, stderr=subprocess.STDOUT)
     said = process.stdout.read().decode(errors="replace").strip()
     _, status, usage = os.wait4(process.pid, 0)
     process.returncode = os.waitstatus_to_exitcode(status)
     return usage.ru_utime + usage.ru_stime, usage.ru_maxrss // 1024, process.returncode, said
+
+
+def tell(seconds, memory, status, name, said, right):
+    print(f"{seconds:6.2f} s {memory:6} MB  {status:3}  {name}: {said}{'' if right else '   WRONG'}", flush=True)
 
 
 def main():
@@ -101,11 +137,16 @@ def main():
     wrong = 0
     with tempfile.TemporaryDirectory() as folder:
         for name, files, told in models():
-            seconds, memory, status, said = run(program, folder, files)
+            seconds, memory, status, said = run(program, folder, ["--validate"], files)
             right = seconds < LIMIT and said.endswith(told) and (status == 0) == (told == "")
             wrong += not right
-            said = said.replace(folder + os.sep, "")
-            print(f"{seconds:6.2f} s {memory:6} MB  {status:3}  {name}: {said}{'' if right else '   WRONG'}", flush=True)
+            tell(seconds, memory, status, name, said.replace(folder + os.sep, ""), right)
+        for name, files, told in trees():
+            seconds, memory, status, said = run(program, folder, [], files)
+            last = said.splitlines()[-1] if said else ""
+            right = seconds < LIMIT_OF_RUN and last == told and status == 0
+            wrong += not right
+            tell(seconds, memory, status, name, last, right)
     sys.exit(wrong != 0)
 
 

@@ -101,7 +101,7 @@ in-with true false h = refl
 in-with false b h = absurd (cc)
 
 -- what was missing was made and is remembered
-pub prepared-made : (w : World) (subject : Prepared) (f : Formula) (signs missing : Signs) (known : Known) (before now next : Builder) (pair : Pair) → IsSound w before → IsSubject w subject f → ((g : Formula) → IsSubject w subject g → g ≡ f) → state_number subject ≤ length w.settings → known ≡ known_of before subject → missing ≡ without signs known.signs → Made w missing (formula_truth w (state_houses w (state_number subject)) f) before now pair → Remembers subject (with_more known missing pair) now next → Made w signs (formula_truth w (state_houses w (state_number subject)) f) before next (with_more known missing pair).pair
+pub prepared-made : (w : World) (subject : Prepared) (f : Formula) (signs missing : Signs) (known : Known) (before now next : Builder) (pair : Pair) → IsSound w before → IsSubject w subject f → ((g : Formula) → IsSubject w subject g → g ≡ f) → state_number subject ≤ length w.changes → known ≡ known_of before subject → missing ≡ without signs known.signs → Made w missing (formula_truth w (state_houses w (state_number subject)) f) before now pair → Remembers subject (with_more known missing pair) now next → Made w signs (formula_truth w (state_houses w (state_number subject)) f) before next (with_more known missing pair).pair
 prepared-made w subject f signs missing known before now next pair sound is only number known_is missing_is made remembers = record {
   reads = reads-fewer (with_more known missing pair).signs signs truth (nodes_of next) (with_more known missing pair).pair yes_in no_in
       (reads-grown (with_more known missing pair).signs truth (nodes_of now) (nodes_of next) (with_more known missing pair).pair grown_next all);

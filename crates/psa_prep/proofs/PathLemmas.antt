@@ -22,12 +22,12 @@ use Rattle.psa_prep.specs.declared.builder.Prepared.TheVariants as prepared
 use Rattle.psa_prep.specs.declared.pairs.Pair.{Pair}
 use Rattle.psa_prep.specs.declared.paths.Progress.{Progress}
 use Rattle.psa_prep.specs.declared.paths.Task.{Task}
-use Rattle.psa_prep.specs.declared.states.Setting.{Setting}
+use Rattle.psa_prep.specs.declared.states.Changes.{Changes}
 use Rattle.psa_prep.specs.Nodes.{nodes_of, known_of}
 use Rattle.psa_prep.specs.Pairs.{Reads, constant_pair}
 use Rattle.psa_prep.specs.Places.{Grown}
 use Rattle.psa_prep.specs.Sound.{IsSubject, state_houses, state_number, formula_truth, AreParts, IsSound, Made, JoinsPairs}
-use Rattle.psa_prep.specs.States.{AreEarlier, IsSet}
+use Rattle.psa_prep.specs.States.{AreStates, IsSet}
 use Rattle.psa_prep.specs.Paths.{task_world, yes_signs, IsStarted, ArePaths, IsPath, PathSoFar, Stepped, MadeAt, path_truth, paths_truth}
 use Rattle.psa_prep.proofs.ConnectiveLemmas.{get-is}
 use Rattle.psa_prep.proofs.EventLemmas.{between-take}
@@ -39,9 +39,9 @@ use Rattle.psa_prep.proofs.StateLemmas.{houses-grown, houses-none}
 -- ---- house states that come in
 
 -- what was prepared stays right
-pub started-grown : (task : Task) (old new : List Setting) (builder : Builder) → Grown old new → AreEarlier new → IsSound (task_world task old) builder → IsStarted task new builder
-started-grown task old new builder g earlier sound = record {
-  earlier = earlier;
+pub started-grown : (task : Task) (old new : List Changes) (builder : Builder) → Grown old new → AreStates (house_states task.expanded.now.model) new → IsSound (task_world task old) builder → IsStarted task new builder
+started-grown task old new builder g states sound = record {
+  states = states;
   sound = record {
     built = sound.built;
     width = sound.width;
@@ -70,10 +70,10 @@ started-grown task old new builder g earlier sound = record {
 -- ---- a path
 
 -- no step yet
-pub path-start : (task : Task) (path : List PathStep) (settings : List Setting) (builder : Builder) → IsStarted task settings builder → PathSoFar task path 0 settings builder (record { pair = constant_pair true; number = 0 })
-path-start task path settings builder started = record {
+pub path-start : (task : Task) (path : List PathStep) (changes : List Changes) (builder : Builder) → IsStarted task changes builder → PathSoFar task path 0 changes builder (record { pair = constant_pair true; number = 0 })
+path-start task path changes builder started = record {
   so_far = [];
-  rest = ap (λ houses. collected task.expanded.now.model houses path) (houses-none (house_states task.expanded.now.model) settings);
+  rest = ap (λ houses. collected task.expanded.now.model houses path) (houses-none (house_states task.expanded.now.model) changes);
   reads = reads-constant yes_signs _ builder true started.sound.built (λ s. refl);
   within = omega arith;
   started = started;
@@ -84,11 +84,11 @@ pub step-at : (task : Task) (path : List PathStep) (i : ℕ) (step : PathStep) �
 step-at task path i step is_path inside is = all-at (step_stands task.expanded.now.model) path i step is_path.stand inside is
 
 -- what a step collects is the next of what the path did
-pub next-collected : (task : Task) (path : List PathStep) (i : ℕ) (id : FormulaId) (f : Formula) (settings : List Setting) (builder : Builder) (progress : Progress) (soFar : PathSoFar task path i settings builder progress) → i < length path → Collect id ≡ get_or path i (Collect id) → slice_get task.expanded.now.model.formulas id.0 ≡ Some f → (soFar.so_far ++ (record { formula = f; houses = state_houses (task_world task settings) progress.number } ∷ [])) ++ collected task.expanded.now.model (state_houses (task_world task settings) progress.number) (drop (i + 1) path) ≡ collected_on task.expanded.now path
-next-collected task path i id f settings builder progress soFar inside is found =
+pub next-collected : (task : Task) (path : List PathStep) (i : ℕ) (id : FormulaId) (f : Formula) (changes : List Changes) (builder : Builder) (progress : Progress) (soFar : PathSoFar task path i changes builder progress) → i < length path → Collect id ≡ get_or path i (Collect id) → slice_get task.expanded.now.model.formulas id.0 ≡ Some f → (soFar.so_far ++ (record { formula = f; houses = state_houses (task_world task changes) progress.number } ∷ [])) ++ collected task.expanded.now.model (state_houses (task_world task changes) progress.number) (drop (i + 1) path) ≡ collected_on task.expanded.now path
+next-collected task path i id f changes builder progress soFar inside is found =
     append_assoc soFar.so_far _ _
-    ∙ ap (λ o. soFar.so_far ++ collected_formula o (state_houses (task_world task settings) progress.number) (collected task.expanded.now.model (state_houses (task_world task settings) progress.number) (drop (i + 1) path))) (sym found)
-    ∙ ap (λ steps. soFar.so_far ++ collected task.expanded.now.model (state_houses (task_world task settings) progress.number) steps) (sym (drop-next path i (Collect id) inside is))
+    ∙ ap (λ o. soFar.so_far ++ collected_formula o (state_houses (task_world task changes) progress.number) (collected task.expanded.now.model (state_houses (task_world task changes) progress.number) (drop (i + 1) path))) (sym found)
+    ∙ ap (λ steps. soFar.so_far ++ collected task.expanded.now.model (state_houses (task_world task changes) progress.number) steps) (sym (drop-next path i (Collect id) inside is))
     ∙ soFar.rest
 
 get-seam : {A : Type 0} (xs : List A) (x : A) (ys : List A) → slice_get ((xs ++ (x ∷ [])) ++ ys) (length xs) ≡ Some x
@@ -96,13 +96,13 @@ get-seam [] x ys = refl
 get-seam (z ∷ xs) x ys = get-seam xs x ys
 
 -- the target meets what a step collects
-pub path-meets : (task : Task) (path : List PathStep) (i : ℕ) (id : FormulaId) (f : Formula) (settings : List Setting) (builder : Builder) (progress : Progress) → IsPath task path → PathSoFar task path i settings builder progress → i < length path → Collect id ≡ get_or path i (Collect id) → slice_get task.expanded.now.model.formulas id.0 ≡ Some f → Meets task.expanded.now task.target.now (state_houses (task_world task settings) progress.number) f
-path-meets task path i id f settings builder progress is_path soFar inside is found =
-    let here : Collected = record { formula = f; houses = state_houses (task_world task settings) progress.number } in
+pub path-meets : (task : Task) (path : List PathStep) (i : ℕ) (id : FormulaId) (f : Formula) (changes : List Changes) (builder : Builder) (progress : Progress) → IsPath task path → PathSoFar task path i changes builder progress → i < length path → Collect id ≡ get_or path i (Collect id) → slice_get task.expanded.now.model.formulas id.0 ≡ Some f → Meets task.expanded.now task.target.now (state_houses (task_world task changes) progress.number) f
+path-meets task path i id f changes builder progress is_path soFar inside is found =
+    let here : Collected = record { formula = f; houses = state_houses (task_world task changes) progress.number } in
     let at : slice_get (collected_on task.expanded.now path) (length soFar.so_far) ≡ Some here =
-    ap (λ all. slice_get all (length soFar.so_far)) (sym (next-collected task path i id f settings builder progress soFar inside is found))
-    ∙ get-seam soFar.so_far here (collected task.expanded.now.model (state_houses (task_world task settings) progress.number) (drop (i + 1) path)) in
-    subst (λ (t : Target). Meets task.expanded.now t (state_houses (task_world task settings) progress.number) f) (sym is_path.is)
+    ap (λ all. slice_get all (length soFar.so_far)) (sym (next-collected task path i id f changes builder progress soFar inside is found))
+    ∙ get-seam soFar.so_far here (collected task.expanded.now.model (state_houses (task_world task changes) progress.number) (drop (i + 1) path)) in
+    subst (λ (t : Target). Meets task.expanded.now t (state_houses (task_world task changes) progress.number) f) (sym is_path.is)
     (on_path is_path.initiating is_path.sequence is_path.paths is_path.at_place path (length soFar.so_far) here is_path.found at)
 
 and-end : (a b : Bool) → (a && (b && true)) ≡ (a && b)
@@ -125,33 +125,33 @@ pairs-part task path some more is_path whole =
     (sym (between-take (length some) (collected_on task.expanded.now path) ∙ ap (take (length some)) (sym whole) ∙ take-append_seam some more)))
 
 -- parts are those of the target, whatever house states came in
-parts-world : (task : Task) (one other : List Setting) (f : Truth) → AreParts (task_world task one) f → AreParts (task_world task other) f
+parts-world : (task : Task) (one other : List Changes) (f : Truth) → AreParts (task_world task one) f → AreParts (task_world task other) f
 parts-world task one other f p = record { itself = p.itself; opposite = p.opposite }
 
 -- a formula more was collected
-pub path-collect : (task : Task) (path : List PathStep) (i : ℕ) (id : FormulaId) (f : Formula) (settings : List Setting) (before mid now : Builder) (progress : Progress) (single result : Pair) → IsPath task path → PathSoFar task path i settings before progress → i < length path → Collect id ≡ get_or path i (Collect id) → slice_get task.expanded.now.model.formulas id.0 ≡ Some f → Made (task_world task settings) yes_signs (formula_truth (task_world task settings) (state_houses (task_world task settings) progress.number) f) before mid single → JoinsPairs yes_signs true progress.pair single mid now result → Stepped task path (i + 1) settings settings before now (record { pair = result; number = progress.number })
-path-collect task path i id f settings before mid now progress single result is_path soFar inside is found made join =
-    let here : Collected = record { formula = f; houses = state_houses (task_world task settings) progress.number } in
-    let whole = next-collected task path i id f settings before progress soFar inside is found in
-    let joined = join (task_world task settings) (all_true task.expanded.now task.target.now soFar.so_far) (formula_truth (task_world task settings) (state_houses (task_world task settings) progress.number) f)
+pub path-collect : (task : Task) (path : List PathStep) (i : ℕ) (id : FormulaId) (f : Formula) (changes : List Changes) (before mid now : Builder) (progress : Progress) (single result : Pair) → IsPath task path → PathSoFar task path i changes before progress → i < length path → Collect id ≡ get_or path i (Collect id) → slice_get task.expanded.now.model.formulas id.0 ≡ Some f → Made (task_world task changes) yes_signs (formula_truth (task_world task changes) (state_houses (task_world task changes) progress.number) f) before mid single → JoinsPairs yes_signs true progress.pair single mid now result → Stepped task path (i + 1) changes changes before now (record { pair = result; number = progress.number })
+path-collect task path i id f changes before mid now progress single result is_path soFar inside is found made join =
+    let here : Collected = record { formula = f; houses = state_houses (task_world task changes) progress.number } in
+    let whole = next-collected task path i id f changes before progress soFar inside is found in
+    let joined = join (task_world task changes) (all_true task.expanded.now task.target.now soFar.so_far) (formula_truth (task_world task changes) (state_houses (task_world task changes) progress.number) f)
     (all_true task.expanded.now task.target.now (soFar.so_far ++ (here ∷ []))) made.sound
     (reads-grown yes_signs _ (nodes_of before) (nodes_of mid) progress.pair made.grown soFar.reads) made.reads
     (λ s. list_all-append (λ (one : Collected). truth_over task.expanded.now task.target.now one.houses one.formula s) soFar.so_far (here ∷ [])
-    ∙ and-end (all_true task.expanded.now task.target.now soFar.so_far s) (formula_truth (task_world task settings) (state_houses (task_world task settings) progress.number) f s))
-    (parts-world task [] settings _ (pairs-part task path (soFar.so_far ++ (here ∷ [])) _ is_path whole)) in record {
+    ∙ and-end (all_true task.expanded.now task.target.now soFar.so_far s) (formula_truth (task_world task changes) (state_houses (task_world task changes) progress.number) f s))
+    (parts-world task [] changes _ (pairs-part task path (soFar.so_far ++ (here ∷ [])) _ is_path whole)) in record {
       prepared = record {
         so_far = soFar.so_far ++ (here ∷ []);
         rest = whole;
         reads = joined.reads;
         within = soFar.within;
-        started = record { earlier = soFar.started.earlier; sound = joined.sound };
+        started = record { states = soFar.started.states; sound = joined.sound };
       };
       grown = grown-then (nodes_of before) (nodes_of mid) (nodes_of now) made.grown joined.grown;
-      set = grown-self settings;
+      set = grown-self changes;
     }
 
 -- a house event was set
-pub path-set : (task : Task) (path : List PathStep) (i : ℕ) (house : HouseId) (state : Bool) (old new : List Setting) (builder : Builder) (progress : Progress) (number : ℕ) → PathSoFar task path i old builder progress → i < length path → Set house state ≡ get_or path i (Set house state) → IsSet (house_states task.expanded.now.model) old new progress.number house.0 state number → Stepped task path (i + 1) old new builder builder (record { pair = progress.pair; number = number })
+pub path-set : (task : Task) (path : List PathStep) (i : ℕ) (house : HouseId) (state : Bool) (old new : List Changes) (builder : Builder) (progress : Progress) (number : ℕ) → PathSoFar task path i old builder progress → i < length path → Set house state ≡ get_or path i (Set house state) → IsSet (house_states task.expanded.now.model) old new progress.number house.0 state number → Stepped task path (i + 1) old new builder builder (record { pair = progress.pair; number = number })
 path-set task path i house state old new builder progress number soFar inside is set = record {
   prepared = record {
     so_far = soFar.so_far;
@@ -161,28 +161,28 @@ path-set task path i house state old new builder progress number soFar inside is
         ∙ soFar.rest;
     reads = soFar.reads;
     within = set.within;
-    started = started-grown task old new builder set.grown set.earlier soFar.started.sound;
+    started = started-grown task old new builder set.grown set.states soFar.started.sound;
   };
   grown = grown-self (nodes_of builder);
   set = set.grown;
 }
 
-pub stepped-then : (task : Task) (path : List PathStep) (i : ℕ) (old mid new : List Setting) (before now next : Builder) (progress : Progress) → Grown old mid → Grown (nodes_of before) (nodes_of now) → Stepped task path i mid new now next progress → Stepped task path i old new before next progress
+pub stepped-then : (task : Task) (path : List PathStep) (i : ℕ) (old mid new : List Changes) (before now next : Builder) (progress : Progress) → Grown old mid → Grown (nodes_of before) (nodes_of now) → Stepped task path i mid new now next progress → Stepped task path i old new before next progress
 stepped-then task path i old mid new before now next progress set grown step = record {
   prepared = step.prepared;
   grown = grown-then (nodes_of before) (nodes_of now) (nodes_of next) grown step.grown;
   set = grown-then old mid new set step.set;
 }
 
-pub stepped-start : (task : Task) (path : List PathStep) (settings : List Setting) (builder : Builder) (progress : Progress) → progress ≡ record { pair = constant_pair true; number = 0 } → IsStarted task settings builder → Stepped task path 0 settings settings builder builder progress
-stepped-start task path settings builder progress is started = record {
-  prepared = subst (λ (p : Progress). PathSoFar task path 0 settings builder p) (sym is) (path-start task path settings builder started);
+pub stepped-start : (task : Task) (path : List PathStep) (changes : List Changes) (builder : Builder) (progress : Progress) → progress ≡ record { pair = constant_pair true; number = 0 } → IsStarted task changes builder → Stepped task path 0 changes changes builder builder progress
+stepped-start task path changes builder progress is started = record {
+  prepared = subst (λ (p : Progress). PathSoFar task path 0 changes builder p) (sym is) (path-start task path changes builder started);
   grown = grown-self (nodes_of builder);
-  set = grown-self settings;
+  set = grown-self changes;
 }
 
 -- all steps
-pub path-end : (task : Task) (path : List PathStep) (i : ℕ) (old new : List Setting) (before now : Builder) (progress : Progress) → length path ≤ i → Stepped task path i old new before now progress → MadeAt task (path_truth task path) old new before now progress.pair
+pub path-end : (task : Task) (path : List PathStep) (i : ℕ) (old new : List Changes) (before now : Builder) (progress : Progress) → length path ≤ i → Stepped task path i old new before now progress → MadeAt task (path_truth task path) old new before now progress.pair
 path-end task path i old new before now progress past step = record {
   reads = reads-as yes_signs _ _ (nodes_of now) progress.pair
       (λ s. ap (λ ones. all_true task.expanded.now task.target.now ones s)
@@ -196,18 +196,18 @@ path-end task path i old new before now progress past step = record {
 
 -- ---- all paths
 
-paths-part : (task : Task) (paths : List (List PathStep)) (i : ℕ) (settings : List Setting) → ArePaths task paths → AreParts (task_world task settings) (paths_truth task (take i paths))
-paths-part task paths i settings are =
-    simple-parts (task_world task settings) (λ s. list_any (λ path. all_true task.expanded.now task.target.now (collected_on task.expanded.now path) s) (between 0 i paths)) _
+paths-part : (task : Task) (paths : List (List PathStep)) (i : ℕ) (changes : List Changes) → ArePaths task paths → AreParts (task_world task changes) (paths_truth task (take i paths))
+paths-part task paths i changes are =
+    simple-parts (task_world task changes) (λ s. list_any (λ path. all_true task.expanded.now task.target.now (collected_on task.expanded.now path) s) (between 0 i paths)) _
     (subst (λ (t : Target). IsSimplePart task.expanded.now t (λ s. list_any (λ path. all_true task.expanded.now t (collected_on task.expanded.now path) s) (between 0 i paths))) (sym are.is)
     (some_path are.initiating are.sequence paths 0 i))
     (λ s. ap (λ ps. paths_truth task ps s) (sym (between-take i paths)))
 
-pub paths-start : (task : Task) (paths : List (List PathStep)) (settings : List Setting) (builder : Builder) → IsStarted task settings builder → MadeAt task (paths_truth task (take 0 paths)) settings settings builder builder (constant_pair false)
-paths-start task paths settings builder started = record {
+pub paths-start : (task : Task) (paths : List (List PathStep)) (changes : List Changes) (builder : Builder) → IsStarted task changes builder → MadeAt task (paths_truth task (take 0 paths)) changes changes builder builder (constant_pair false)
+paths-start task paths changes builder started = record {
   reads = reads-constant yes_signs _ builder false started.sound.built (λ s. refl);
   grown = grown-self (nodes_of builder);
-  set = grown-self settings;
+  set = grown-self changes;
   started = started;
 }
 
@@ -222,7 +222,7 @@ path-of task paths i path are inside is = record {
   stand = all-at (λ p. list_all (step_stands task.expanded.now.model) p) paths i path are.stand inside is;
 }
 
-pub paths-more : (task : Task) (paths : List (List PathStep)) (i : ℕ) (path : List PathStep) (old mid new : List Setting) (start before now next : Builder) (pair single result : Pair) → ArePaths task paths → i < length paths → path ≡ get_or paths i path → MadeAt task (paths_truth task (take i paths)) old mid start before pair → MadeAt task (path_truth task path) mid new before now single → JoinsPairs yes_signs false pair single now next result → MadeAt task (paths_truth task (take (i + 1) paths)) old new start next result
+pub paths-more : (task : Task) (paths : List (List PathStep)) (i : ℕ) (path : List PathStep) (old mid new : List Changes) (start before now next : Builder) (pair single result : Pair) → ArePaths task paths → i < length paths → path ≡ get_or paths i path → MadeAt task (paths_truth task (take i paths)) old mid start before pair → MadeAt task (path_truth task path) mid new before now single → JoinsPairs yes_signs false pair single now next result → MadeAt task (paths_truth task (take (i + 1) paths)) old new start next result
 paths-more task paths i path old mid new start before now next pair single result are inside is so_far made join =
     let joined = join (task_world task new) (paths_truth task (take i paths)) (path_truth task path) (paths_truth task (take (i + 1) paths)) made.started.sound
     (reads-grown yes_signs _ (nodes_of before) (nodes_of now) pair made.grown so_far.reads) made.reads
@@ -233,10 +233,10 @@ paths-more task paths i path old mid new start before now next pair single resul
       reads = joined.reads;
       grown = grown-then (nodes_of start) (nodes_of now) (nodes_of next) (grown-then (nodes_of start) (nodes_of before) (nodes_of now) so_far.grown made.grown) joined.grown;
       set = grown-then old mid new so_far.set made.set;
-      started = record { earlier = made.started.earlier; sound = joined.sound };
+      started = record { states = made.started.states; sound = joined.sound };
     }
 
-pub paths-end : (task : Task) (paths : List (List PathStep)) (i : ℕ) (old new : List Setting) (start now : Builder) (pair : Pair) → length paths ≤ i → MadeAt task (paths_truth task (take i paths)) old new start now pair → MadeAt task (paths_truth task paths) old new start now pair
+pub paths-end : (task : Task) (paths : List (List PathStep)) (i : ℕ) (old new : List Changes) (start now : Builder) (pair : Pair) → length paths ≤ i → MadeAt task (paths_truth task (take i paths)) old new start now pair → MadeAt task (paths_truth task paths) old new start now pair
 paths-end task paths i old new start now pair past made = subst (λ (ps : List (List PathStep)). MadeAt task (paths_truth task ps) old new start now pair) (take_all i paths past) made
 
 -- the formula that a step collects stands

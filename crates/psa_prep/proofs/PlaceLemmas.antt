@@ -70,3 +70,12 @@ grown-length before now g = let size : length now ≡ length g.0 + length before
 
 pub added-grown : {A : Type 0} (x : A) (before now : List A) (place : ℕ) → IsAdded x before now place → Grown before now
 added-grown x before now place a = elim a.1 [ inl p ↦ grown-same before now p | inr p ↦ grown-one before now x p.0 ]
+
+-- an item that came in was not there
+pub added-fresh : {A : Type 0} (eq : A → A → Bool) → ((a : A) → eq a a ≡ true) → (keys now : List A) (n : A) (place : ℕ) → now ≡ insert_key eq keys n → reverse now ≡ n ∷ reverse keys → older_at (reverse keys) place ≡ Some n → ⊥
+added-fresh eq same keys now n place e new there = elim (cases_Bool (list_any (eq n) keys)) [
+  | inl p ↦
+      let stays : now ≡ keys = rw p at e in
+      let size : length (n ∷ reverse keys) ≡ length (reverse keys) = ap length (sym new ∙ ap reverse stays) in omega arith
+  | inr p ↦ true≢false (sym (any-at (eq n) keys place n (sym (older_at-key keys place) ∙ there) (same n)) ∙ p)
+]

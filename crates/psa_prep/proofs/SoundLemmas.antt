@@ -203,7 +203,7 @@ sound-placed w asked f before now place sound p part = record {
         below a b c l e n = omega arith
 
 -- something was remembered
-pub sound-remembered : (w : World) (subject : Prepared) (known : Known) (before now : Builder) → IsSound w before → Remembers subject known before now → state_number subject ≤ length w.settings → ((f : Formula) → IsSubject w subject f → Reads known.signs (formula_truth w (state_houses w (state_number subject)) f) (nodes_of before) known.pair) → IsSound w now
+pub sound-remembered : (w : World) (subject : Prepared) (known : Known) (before now : Builder) → IsSound w before → Remembers subject known before now → state_number subject ≤ length w.changes → ((f : Formula) → IsSubject w subject f → Reads known.signs (formula_truth w (state_houses w (state_number subject)) f) (nodes_of before) known.pair) → IsSound w now
 sound-remembered w subject known before now sound r within right = record {
   built = built-grown before now (grown-same (nodes_of before) (nodes_of now) same) first sound.built;
   width = r.width ∙ sound.width;
@@ -225,7 +225,7 @@ sound-remembered w subject known before now sound r within right = record {
     by other f is false e entry =
         subst (λ (k : Known). Reads k.signs (formula_truth w (state_houses w (state_number other)) f) (nodes_of before) k.pair) (sym entry) (sound.right other f is)
 
-    fresher : (other : Prepared) → length w.settings < state_number other → (b : Bool) → prepared_eq subject other ≡ b → known_of now other ≡ cond b known (known_of before other) → known_of now other ≡ nothing_known
+    fresher : (other : Prepared) → length w.changes < state_number other → (b : Bool) → prepared_eq subject other ≡ b → known_of now other ≡ cond b known (known_of before other) → known_of now other ≡ nothing_known
     fresher other later true e entry =
         let number : state_number subject ≡ state_number other = ap state_number (prepared-exact subject other e) in absurd (omega arith)
     fresher other later false e entry = entry ∙ sound.fresh other later

@@ -29,7 +29,7 @@ use Rattle.psa_prep.specs.declared.builder.Known.{Known}
 use Rattle.psa_prep.specs.declared.pairs.Pair.{Pair}
 use Rattle.psa_prep.specs.declared.pairs.Signs.{Signs}
 use Rattle.psa_prep.specs.declared.paths.Task.{Task}
-use Rattle.psa_prep.specs.declared.states.Setting.{Setting}
+use Rattle.psa_prep.specs.declared.states.Changes.{Changes}
 use Rattle.psa_prep.specs.Lowering.{rank_at}
 use Rattle.psa_prep.specs.Nodes.{nodes_of, nothing_known, IsBlank}
 use Rattle.psa_prep.specs.Pairs.{Reads}
@@ -37,7 +37,7 @@ use Rattle.psa_prep.specs.Paths.{task_world, yes_signs, IsStarted, ArePaths, Mad
 use Rattle.psa_prep.specs.Preparing.{MadeTarget}
 use Rattle.psa_prep.specs.Sound.{state_number, state_houses, formula_truth, Made}
 use Rattle.psa_prep.proofs.NodeLemmas.{blank-built}
-use Rattle.psa_prep.proofs.StateLemmas.{houses-none}
+use Rattle.psa_prep.proofs.StateLemmas.{houses-none, states-none}
 
 constant-part : (task : Task) (f : (ℕ → Bool) → Bool) (b : Bool) → ((s : ℕ → Bool) → f s ≡ b) → IsPart task.expanded.now task.target.now f
 constant-part task f b same = record { part = λ s. b; is_part = one _ (constant task.target.now b); same = same }
@@ -59,7 +59,7 @@ pub started-blank : (task : Task) (builder : Builder) → IsBlank (length (ranks
 started-blank task builder blank =
     let built = blank-built _ builder blank in
     let some : 1 < length (nodes_of builder) = built.some in record {
-      earlier = tt;
+      states = states-none (house_states task.expanded.now.model);
       sound = record {
         built = built;
         width = blank.is_width;
@@ -86,26 +86,26 @@ paths-stand task initiating sequence paths items is same stands = record {
 }
 
 -- the gate of a target is met
-pub top-meets : (task : Task) (gate : GateId) (settings : List Setting) → task.target.now ≡ TopEvent gate → Meets task.expanded.now task.target.now (state_houses (task_world task settings) 0) (variant.Gate gate)
-top-meets task gate settings is =
-    subst (λ (houses : List Bool). Meets task.expanded.now task.target.now houses (variant.Gate gate)) (sym (houses-none (house_states task.expanded.now.model) settings))
+pub top-meets : (task : Task) (gate : GateId) (changes : List Changes) → task.target.now ≡ TopEvent gate → Meets task.expanded.now task.target.now (state_houses (task_world task changes) 0) (variant.Gate gate)
+top-meets task gate changes is =
+    subst (λ (houses : List Bool). Meets task.expanded.now task.target.now houses (variant.Gate gate)) (sym (houses-none (house_states task.expanded.now.model) changes))
     (subst (λ (t : Target). Meets task.expanded.now t (house_states task.expanded.now.model) (variant.Gate gate)) (sym is) (top gate))
 
 -- a top event was made
-pub top-made : (task : Task) (gate : GateId) (settings : List Setting) (signs : Signs) (before now : Builder) (pair : Pair) → task.target.now ≡ TopEvent gate → signs ≡ yes_signs → Made (task_world task settings) signs (formula_truth (task_world task settings) (state_houses (task_world task settings) 0) (variant.Gate gate)) before now pair → MadeTarget task now pair.yes
-top-made task gate settings signs before now pair is asked made = record {
+pub top-made : (task : Task) (gate : GateId) (changes : List Changes) (signs : Signs) (before now : Builder) (pair : Pair) → task.target.now ≡ TopEvent gate → signs ≡ yes_signs → Made (task_world task changes) signs (formula_truth (task_world task changes) (state_houses (task_world task changes) 0) (variant.Gate gate)) before now pair → MadeTarget task now pair.yes
+top-made task gate changes signs before now pair is asked made = record {
   there = made.reads.there.0;
   first = made.sound.built.first;
   is_width = made.sound.width;
   reads = λ s.
       made.reads.as_yes (ap (λ a. a.yes) asked) s
-      ∙ ap (λ houses. formula_truth (task_world task settings) houses (variant.Gate gate) s) (houses-none (house_states task.expanded.now.model) settings)
+      ∙ ap (λ houses. formula_truth (task_world task changes) houses (variant.Gate gate) s) (houses-none (house_states task.expanded.now.model) changes)
       ∙ sym (ap (λ t. truth_by_rank task.expanded.now t (ranks_of task.expanded.now task.target.now) s) is);
   parts = made.sound.parts;
 }
 
 -- a sequence was made
-pub sequence-made : (task : Task) (paths : List (List PathStep)) (old new : List Setting) (before now : Builder) (pair : Pair) → ArePaths task paths → MadeAt task (paths_truth task paths) old new before now pair → MadeTarget task now pair.yes
+pub sequence-made : (task : Task) (paths : List (List PathStep)) (old new : List Changes) (before now : Builder) (pair : Pair) → ArePaths task paths → MadeAt task (paths_truth task paths) old new before now pair → MadeTarget task now pair.yes
 sequence-made task paths old new before now pair are made = record {
   there = made.reads.there.0;
   first = made.started.sound.built.first;

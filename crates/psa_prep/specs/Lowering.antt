@@ -20,7 +20,7 @@ use Rattle.psa_prep.specs.Sound.{World, state_houses, formula_truth, IsSound, Ma
 use Rattle.psa_prep.specs.States.{AreEarlier}
 
 abbrev pub world_of : Context → World
-world_of context = record { expanded = context.expanded.now; target = context.target.now; settings = reverse context.states.now.settings.keys }
+world_of context = record { expanded = context.expanded.now; target = context.target.now; changes = reverse context.states.now.changes.keys }
 
 -- the house states in force
 abbrev pub houses_of : Context → List Bool
@@ -38,8 +38,8 @@ AreRanks ranks map = (event : ℕ) → get nat_eq map event ≡ rank_at event 0 
 pub record IsContext (context : Context) : Type 0 where
   pub has_index : IsIndex context.expanded.now context.index.now
   pub has_ranks : AreRanks (ranks_of context.expanded.now context.target.now) context.ranks.now
-  pub earlier : AreEarlier (reverse context.states.now.settings.keys)
-  pub within : context.state ≤ length (reverse context.states.now.settings.keys)
+  pub earlier : AreEarlier (reverse context.states.now.changes.keys)
+  pub within : context.state ≤ length (reverse context.states.now.changes.keys)
 
 -- the pair reads as the formula
 abbrev pub Makes : Context → Formula → Signs → Builder → Builder → Pair → Type 0

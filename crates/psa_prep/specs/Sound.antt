@@ -16,7 +16,7 @@ use Rattle.psa_prep.specs.declared.builder.Prepared.{Prepared}
 use Rattle.psa_prep.specs.declared.builder.Prepared.TheVariants as prepared
 use Rattle.psa_prep.specs.declared.pairs.Pair.{Pair}
 use Rattle.psa_prep.specs.declared.pairs.Signs.{Signs}
-use Rattle.psa_prep.specs.declared.states.Setting.{Setting}
+use Rattle.psa_prep.specs.declared.states.Changes.{Changes}
 use Rattle.psa_prep.specs.Nodes.{nodes_of, joins, known_of, nothing_known, IsBuilt}
 use Rattle.psa_prep.specs.Pairs.{Reads}
 use Rattle.psa_prep.specs.Places.{Grown}
@@ -26,10 +26,10 @@ use Rattle.psa_prep.specs.States.{houses_at}
 pub record World : Type 0 where
   pub expanded : Expanded
   pub target : Target
-  pub settings : List Setting
+  pub changes : List Changes
 
 abbrev pub state_houses : World → ℕ → List Bool
-state_houses w number = houses_at (house_states w.expanded.model) w.settings number
+state_houses w number = houses_at (house_states w.expanded.model) w.changes number
 
 -- the truth of a formula over the ranks of the target
 abbrev pub formula_truth : World → List Bool → Formula → Truth
@@ -61,7 +61,7 @@ AllRight w builder =
 
 -- nothing is remembered of house states to come
 abbrev pub AllFresh : World → Builder → Type 0
-AllFresh w builder = (subject : Prepared) → length w.settings < state_number subject → known_of builder subject ≡ nothing_known
+AllFresh w builder = (subject : Prepared) → length w.changes < state_number subject → known_of builder subject ≡ nothing_known
 
 pub record IsSound (w : World) (builder : Builder) : Type 0 where
   pub built : IsBuilt builder

@@ -3,7 +3,7 @@ ghost use Rattle.std.specs.List.{slice_get};
 ghost use Rattle.psa_model.specs.declared.formula.Formula.{Formula as Formulas};
 ghost use Rattle.psa_model.specs.Parts.{Meets};
 ghost use Rattle.psa_model.specs.Truth.{IsResolved};
-ghost use Rattle.psa_prep.specs.Paths.{ArePaths, IsTask, IsPath, IsStarted, PathSoFar, Stepped, MadeAt, MadeFormula, path_truth, paths_truth, settings_of, task_world};
+ghost use Rattle.psa_prep.specs.Paths.{ArePaths, IsTask, IsPath, IsStarted, PathSoFar, Stepped, MadeAt, MadeFormula, path_truth, paths_truth, changes_of, task_world};
 ghost use Rattle.psa_prep.specs.Sound.{state_houses};
 
 use crate::EventIndex;
@@ -45,9 +45,9 @@ pub fn lower_paths(
     requires resolved { IsResolved task.now.expanded.now.model }
     requires task { IsTask task.now }
     requires paths { ArePaths task.now paths.now }
-    requires started { IsStarted task.now (settings_of states.old) builder.old }
+    requires started { IsStarted task.now (changes_of states.old) builder.old }
     ensures { IfOk result (MadeAt task.now (paths_truth task.now paths.now)
-        (settings_of states.old) (settings_of states.new) builder.old builder.new) }
+        (changes_of states.old) (changes_of states.new) builder.old builder.new) }
 {
     let mut pair = Pair::constant(false);
     for path in paths {
@@ -68,9 +68,9 @@ fn lower_path(
     requires resolved { IsResolved task.now.expanded.now.model }
     requires task { IsTask task.now }
     requires path { IsPath task.now path.now }
-    requires started { IsStarted task.now (settings_of states.old) builder.old }
+    requires started { IsStarted task.now (changes_of states.old) builder.old }
     ensures { IfOk result (MadeAt task.now (path_truth task.now path.now)
-        (settings_of states.old) (settings_of states.new) builder.old builder.new) }
+        (changes_of states.old) (changes_of states.new) builder.old builder.new) }
 {
     let mut progress = Progress {
         pair: Pair::constant(true),
@@ -95,9 +95,9 @@ fn lower_step(
     requires task { IsTask task.now }
     requires path { IsPath task.now path.now }
     requires place { place < length path.now }
-    requires so_far { PathSoFar task.now path.now place (settings_of states.old) builder.old progress }
+    requires so_far { PathSoFar task.now path.now place (changes_of states.old) builder.old progress }
     ensures { IfOk result (Stepped task.now path.now (place + 1)
-        (settings_of states.old) (settings_of states.new) builder.old builder.new) }
+        (changes_of states.old) (changes_of states.new) builder.old builder.new) }
 {
     match path[place] {
         PathStep::Collect(id) => {
@@ -132,10 +132,10 @@ fn lower_collected(
     requires meets { (one : Formulas)
         → slice_get task.now.expanded.now.model.formulas id.0 ≡ Some one
         → Meets task.now.expanded.now task.now.target.now
-        (state_houses (task_world task.now (settings_of states.now)) number) one }
-    requires number { number ≤ length (settings_of states.now) }
-    requires started { IsStarted task.now (settings_of states.now) builder.old }
-    ensures { IfOk result (MadeFormula task.now (settings_of states.now) number id
+        (state_houses (task_world task.now (changes_of states.now)) number) one }
+    requires number { number ≤ length (changes_of states.now) }
+    requires started { IsStarted task.now (changes_of states.now) builder.old }
+    ensures { IfOk result (MadeFormula task.now (changes_of states.now) number id
         builder.old builder.new) }
 {
     let subject = Prepared::Formula {

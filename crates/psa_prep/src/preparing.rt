@@ -26,7 +26,8 @@ use std::collections::HashMap;
 /// The truth of a target over the ranks of its events, as a shared graph of conjunctions and
 /// disjunctions of literals: negation is pushed down to the events, constants are taken out, equal nodes
 /// are one. Each gate is prepared once for each sign and list of house states, each collected formula
-/// once for each list of house states; the work recurses at most 501 levels deep.
+/// once for each list of house states, and equal lists are one, in whatever order their states were set;
+/// the work recurses at most 501 levels deep.
 pub fn prepare(
     alloc: Global,
     expanded: &Expanded,

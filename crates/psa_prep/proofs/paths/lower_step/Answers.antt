@@ -3,7 +3,7 @@ use Rattle.std.proofs.lemmas.List.{get_or_default}
 use Rattle.psa_model.specs.declared.targets.PathStep.TheVariants.{Collect, Set}
 use Rattle.psa_prep.specs.declared.pairs.Signs.{Signs}
 use Rattle.psa_prep.specs.Nodes.{nodes_of}
-use Rattle.psa_prep.specs.Paths.{settings_of}
+use Rattle.psa_prep.specs.Paths.{changes_of}
 use Rattle.psa_prep.specs.Sound.{JoinsPairs}
 use Rattle.psa_prep.proofs.ConnectiveLemmas.{stands-grown}
 use Rattle.psa_prep.proofs.ListLemmas.{at-place}
@@ -18,7 +18,7 @@ lower_collected-requires-clause-stands c =
 pub lower_collected-requires-clause-meets : goal.lower_collected-requires-clause-meets
 lower_collected-requires-clause-meets c =
     let is : Collect c.in-Collect.id ≡ get_or c.args.path.now c.args.place (Collect c.in-Collect.id) = sym c.in-Collect.is ∙ get_or_default c.args.path.now c.args.place _ (Collect c.in-Collect.id) c.requires.place in
-    λ one found. path-meets c.args.task.now c.args.path.now c.args.place c.in-Collect.id one (settings_of c.args.states.now) c.args.builder.now c.args.progress c.requires.path c.requires.so_far c.requires.place is found
+    λ one found. path-meets c.args.task.now c.args.path.now c.args.place c.in-Collect.id one (changes_of c.args.states.now) c.args.builder.now c.args.progress c.requires.path c.requires.so_far c.requires.place is found
 
 pub lower_collected-requires-clause-number : goal.lower_collected-requires-clause-number
 lower_collected-requires-clause-number c = c.requires.so_far.within
@@ -52,10 +52,10 @@ returns-in_ok-pair-in-Collect c =
     let is : Collect c.in-Collect.id ≡ get_or c.args.path.now c.args.place (Collect c.in-Collect.id) = sym c.in-Collect.is ∙ get_or_default c.args.path.now c.args.place _ (Collect c.in-Collect.id) c.requires.place in
     let found = at-place c.args.task.now.expanded.now.model.formulas c.in-Collect.id.0 (collect-stands c.args.task.now c.args.path.now c.args.place c.in-Collect.id c.requires.path c.requires.place is) in
     let made = c.in_ok-one-in-Collect.ensures found.0 found.1 in
-    path-collect c.args.task.now c.args.path.now c.args.place c.in-Collect.id found.0 (settings_of c.args.states.now) c.args.builder.now c.lower_collected.new.builder c.join_pair.new.builder c.args.progress c.in_ok-one-in-Collect.one c.in_ok-pair-in-Collect.pair c.requires.path c.requires.so_far c.requires.place is found.1 made
+    path-collect c.args.task.now c.args.path.now c.args.place c.in-Collect.id found.0 (changes_of c.args.states.now) c.args.builder.now c.lower_collected.new.builder c.join_pair.new.builder c.args.progress c.in_ok-one-in-Collect.one c.in_ok-pair-in-Collect.pair c.requires.path c.requires.so_far c.requires.place is found.1 made
     (subst (λ (some : Signs). JoinsPairs some true c.args.progress.pair c.in_ok-one-in-Collect.one c.lower_collected.new.builder c.join_pair.new.builder c.in_ok-pair-in-Collect.pair) c.yes.ensures c.in_ok-pair-in-Collect.ensures)
 
 pub returns-in_ok-number-in-Set : goal.returns-in_ok-number-in-Set
 returns-in_ok-number-in-Set c =
     let is : Set c.in-Set.house c.in-Set.state ≡ get_or c.args.path.now c.args.place (Set c.in-Set.house c.in-Set.state) = sym c.in-Set.is ∙ get_or_default c.args.path.now c.args.place _ (Set c.in-Set.house c.in-Set.state) c.requires.place in
-    path-set c.args.task.now c.args.path.now c.args.place c.in-Set.house c.in-Set.state (settings_of c.args.states.now) (settings_of c.set.new.self) c.args.builder.now c.args.progress c.in_ok-number-in-Set.number c.requires.so_far c.requires.place is c.in_ok-number-in-Set.ensures
+    path-set c.args.task.now c.args.path.now c.args.place c.in-Set.house c.in-Set.state (changes_of c.args.states.now) (changes_of c.set.new.self) c.args.builder.now c.args.progress c.in_ok-number-in-Set.number c.requires.so_far c.requires.place is c.in_ok-number-in-Set.ensures
