@@ -6,3 +6,4 @@ pub mod PlaceLemmas
 pub mod TopEventLemmas
 pub mod SequenceGroupLemmas
 pub mod FirstFaultLemmas
+pub mod LastForkLemmas

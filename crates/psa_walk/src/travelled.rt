@@ -96,12 +96,13 @@ impl<'a> Travelled<'a> {
     pub fn took(&self, name: &Text, state: &Text) -> bool
         ensures { result ≡ took name.now state.now false self.now.forks }
     {
-        let mut answer = false;
-        for fork in self.forks.as_slice() {
+        let forks = self.forks.as_slice();
+        for place in (0..forks.len()).rev() {
+            let fork = forks[place];
             if fork.name.as_str() == name.as_str() {
-                answer = fork.state.as_str() == state.as_str();
+                return fork.state.as_str() == state.as_str();
             }
         }
-        answer
+        false
     }
 }
