@@ -1,6 +1,6 @@
 #!/usr/bin/env python3
-"""Times `scram --validate` on models of a million elements that are hard on a reader or on look-ups, and whole
-runs over event trees of 65,536 paths.
+"""Times `scram --validate` on models of a million elements that are hard on a reader or on look-ups, and on models
+whose paths or quantities are, and whole runs over event trees of 65,536 paths.
 
     benchmarks/hostile.py [PROGRAM [ELEMENTS]]
 
@@ -48,8 +48,35 @@ def walk(content):
             "</opsa-mef>"]
 
 
+def fork(states, to):
+    """A fork at X whose paths go on in another branch."""
+    paths = (f'<path state="{state}"><branch name="b{to}"/></path>' for state in states)
+    return f'<fork functional-event="X">{"".join(paths)}</fork>'
+
+
+def tested_forks(single, double, tests):
+    """Paths of as many forks, of one path each and then of two, at the end of which a conditional has as many tests."""
+    tested = '<test-functional-event name="X" state="r"/>'
+    last = single + double
+    return ["<opsa-mef>", '<define-initiating-event name="I" event-tree="E"/>', '<define-event-tree name="E">',
+            '<define-functional-event name="X"/>', '<define-sequence name="S"><if><or>', *[tested] * tests,
+            "</or><block/></if></define-sequence>",
+            *(f'<define-branch name="b{i}">{fork("p" if i < single else "pq", i + 1)}</define-branch>' for i in range(last)),
+            f'<define-branch name="b{last}"><sequence name="S"/></define-branch>',
+            '<initial-state><branch name="b0"/></initial-state>', "</define-event-tree>", "</opsa-mef>"]
+
+
+def shared_group(numbers):
+    """A group of 8 members, thus of 255 subsets, whose distribution is a sum of as many numbers."""
+    return ["<opsa-mef>", '<define-CCF-group name="G" model="MGL"><members>',
+            *(f'<basic-event name="m{i}"/>' for i in range(8)), "</members><distribution><add>",
+            *['<float value="1e-9"/>'] * numbers, "</add></distribution>",
+            *(f'<factor level="{level}"><float value="0.5"/></factor>' for level in range(2, 9)),
+            "</define-CCF-group>", "</opsa-mef>"]
+
+
 def models():
-    """Each model: its name, the lines of its files, and the end of what is said; nothing where it is valid."""
+    """Each model: its name, the lines of its files, the end of what is said (nothing where it is valid), and options."""
     ends = '<define-gate name="g0"><constant value="true"/></define-gate>'
     last = 2 * HALF
     yield "gates", [tree(gate(i, 0) for i in range(1, HALF)), tree([ends, *(gate(i, 0) for i in range(HALF, last))], "H")], ""
@@ -82,6 +109,8 @@ def models():
                                   "</opsa-mef>"]], ":2: bad group G"
     yield "unknown elements", [["<opsa-mef>", *["<x/>"] * SIZE, "</opsa-mef>"]], ":2: unknown element x"
     yield "labels", [tree(["<label>a</label>"] * SIZE)], ""
+    yield "tests after many forks", [tested_forks(100, 10, 10_000)], ""
+    yield "subsets of a group", [shared_group(SIZE * 7 // 10)], "", "--ccf", "--rare-event"
 
 
 def settings(*houses):
@@ -136,8 +165,8 @@ def main():
     program = sys.argv[1] if len(sys.argv) > 1 else os.path.join(ROOT, "scram")
     wrong = 0
     with tempfile.TemporaryDirectory() as folder:
-        for name, files, told in models():
-            seconds, memory, status, said = run(program, folder, ["--validate"], files)
+        for name, files, told, *options in models():
+            seconds, memory, status, said = run(program, folder, ["--validate", *options], files)
             right = seconds < LIMIT and said.endswith(told) and (status == 0) == (told == "")
             wrong += not right
             tell(seconds, memory, status, name, said.replace(folder + os.sep, ""), right)

@@ -1,4 +1,4 @@
-ghost use Rattle.std.specs.Prelude.{◌≡◌, ◌≤◌, ℕ, Ok, Err, Some, None, IfOk};
+ghost use Rattle.std.specs.Prelude.{◌≡◌, ◌≤◌, ℕ, Ok, Err, Some, None, IfOk, IfSome};
 ghost use Rattle.std.specs.List.{AllZip};
 ghost use Rattle.psa_number.specs.Exponential.{last_term};
 ghost use Rattle.psa_number.specs.Fraction.{Holds};
@@ -6,7 +6,7 @@ ghost use Rattle.psa_model.specs.declared.fault.ModelFault.{ModelFault};
 ghost use Rattle.psa_model.specs.Faults.{fault_at};
 ghost use Rattle.psa_model.specs.Values.{event_interval, finished, place_of_event, quantities_of, values_of};
 ghost use Rattle.psa_expr.specs.Answers.{AllRight};
-ghost use Rattle.psa_expr.specs.Events.{EventAnswered, HaveValues};
+ghost use Rattle.psa_expr.specs.Events.{EventAnswered, HaveValues, ServesItsSize};
 
 use crate::ValueError;
 use crate::counts::size_of;
@@ -22,6 +22,14 @@ use psa_number::{Decimal, Interval, NumberFault, UNITS, clamp_unit};
 use psa_text::{Items, OutOfMemory, Text};
 use sqlite_items::at;
 use std::alloc::Global;
+
+/// The interval of the last subset of a group that was evaluated: it serves the next ones of its size.
+#[derive(Clone, Copy)]
+struct SizeValue {
+    group: GroupId,
+    size: u8,
+    value: Interval,
+}
 
 /// The interval of each event's quantity at a mission time, by event number, or the first fault of an
 /// event. A basic event's expression, or the quantity that its group gives to a subset or a member, is
@@ -43,9 +51,10 @@ pub fn evaluate(alloc: Global, expanded: &Expanded, mission: Decimal) -> Result<
         mission,
     };
     let mut known = unknown(alloc, expanded.model.parameters.len())?;
+    let mut last = None;
     let mut values = Items::new(alloc);
     for event in expanded.events.as_slice() {
-        match event_value(alloc, &setting, &mut known, *event)? {
+        match event_value(alloc, &setting, &mut known, &mut last, *event)? {
             Ok(value) => values.push(value)?,
             Err(kind) => {
                 let fault = fault_of(alloc, &expanded.model, *event, kind)?;
@@ -61,17 +70,20 @@ fn event_value(
     alloc: Global,
     setting: &Setting,
     known: &mut Known,
+    last: &mut Option<SizeValue>,
     event: ExpandedEvent,
 ) -> Result<Result<Interval, FaultKind>, OutOfMemory>
     requires values { HaveValues setting.now.model.now }
     requires right { AllRight setting.now.mission setting.now.model.now known.old }
-    ensures { IfOk result (EventAnswered setting.now.mission setting.now.model.now
+    requires last { ServesItsSize setting.now.mission setting.now.model.now last.old }
+    ensures value { IfOk result (EventAnswered setting.now.mission setting.now.model.now
         (event_interval setting.now.mission setting.now.model.now event) known.new) }
+    ensures last { ServesItsSize setting.now.mission setting.now.model.now last.new }
 {
     match event {
         ExpandedEvent::Basic(id) => basic_value(alloc, setting, known, id),
         ExpandedEvent::Member(id, _) => member_value(alloc, setting, known, id),
-        ExpandedEvent::Shared(id, subset) => shared_value(alloc, setting, known, id, subset),
+        ExpandedEvent::Shared(id, subset) => shared_value(alloc, setting, known, last, id, subset),
     }
 }
 
@@ -120,26 +132,50 @@ fn member_value(
     }
 }
 
-/// The interval of a subset of a group: that of its size.
+/// The interval of a subset of a group: that of its size, which the last one may have had. (The subsets of
+/// a group stand by size.)
 fn shared_value(
     alloc: Global,
     setting: &Setting,
     known: &mut Known,
+    last: &mut Option<SizeValue>,
     id: GroupId,
     subset: u8,
 ) -> Result<Result<Interval, FaultKind>, OutOfMemory>
     requires values { HaveValues setting.now.model.now }
     requires right { AllRight setting.now.mission setting.now.model.now known.old }
-    ensures { IfOk result (EventAnswered setting.now.mission setting.now.model.now
+    requires last { ServesItsSize setting.now.mission setting.now.model.now last.old }
+    ensures value { IfOk result (EventAnswered setting.now.mission setting.now.model.now
         (event_interval setting.now.mission setting.now.model.now (ExpandedEvent.Shared id subset)) known.new) }
+    ensures last { ServesItsSize setting.now.mission setting.now.model.now last.new }
 {
-    match at(setting.model.groups.as_slice(), id.0 as usize) {
-        Some(group) => {
-            let count = group.members.len() as u8;
-            let size = size_of(count, subset);
-            Ok(finish(group_value(alloc, setting, known, group, count, size)?))
-        }
-        None => Ok(Err(FaultKind::NoValue)),
+    let Some(group) = at(setting.model.groups.as_slice(), id.0 as usize) else {
+        return Ok(Err(FaultKind::NoValue));
+    };
+    let count = group.members.len() as u8;
+    let size = size_of(count, subset);
+    if let Some(value) = value_of_size(last, id, size) {
+        return Ok(Ok(value));
+    }
+    let value = finish(group_value(alloc, setting, known, group, count, size)?);
+    if let Ok(value) = value {
+        *last = Some(SizeValue {
+            group: id,
+            size,
+            value,
+        });
+    }
+    Ok(value)
+}
+
+/// The interval of the subsets of this size of a group, where the last one was of it.
+fn value_of_size(last: &Option<SizeValue>, group: GroupId, size: u8) -> Option<Interval>
+    ensures { IfSome result (λ value.
+        last.now ≡ Some (record { group = group; size = size; value = value })) }
+{
+    match last {
+        Some(kept) if kept.group.0 == group.0 && kept.size == size => Some(kept.value),
+        _ => None,
     }
 }
 
