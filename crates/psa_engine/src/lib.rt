@@ -2,10 +2,12 @@
 #![tactic(auto)]
 
 mod end;
+mod limits;
 mod run;
 mod telling;
 
 pub use end::End;
+pub use limits::limits_are_as_stated;
 pub use psa_load::{load, sample_text};
 pub use psa_outcome::{LoadError, Loaded, Status};
 pub use psa_words::{WordsError, read_words};
