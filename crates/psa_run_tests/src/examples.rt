@@ -297,15 +297,15 @@ mcub 0.000599950000 0.000599950000
 <opsa-mef>
 <define-fault-tree name="Rods">
 <define-gate name="AllStuck"><and>
-<basic-event name="R01"/><basic-event name="R02"/><basic-event name="R03"/><basic-event name="R04"/><basic-event name="R05"/><basic-event name="R06"/><basic-event name="R07"/>
-<basic-event name="R08"/><basic-event name="R09"/><basic-event name="R10"/><basic-event name="R11"/><basic-event name="R12"/><basic-event name="R13"/><basic-event name="R14"/>
-<basic-event name="R15"/><basic-event name="R16"/><basic-event name="R17"/><basic-event name="R18"/><basic-event name="R19"/><basic-event name="R20"/><basic-event name="R21"/>
+<basic-event name="Rod01"/><basic-event name="Rod02"/><basic-event name="Rod03"/><basic-event name="Rod04"/><basic-event name="Rod05"/><basic-event name="Rod06"/><basic-event name="Rod07"/>
+<basic-event name="Rod08"/><basic-event name="Rod09"/><basic-event name="Rod10"/><basic-event name="Rod11"/><basic-event name="Rod12"/><basic-event name="Rod13"/><basic-event name="Rod14"/>
+<basic-event name="Rod15"/><basic-event name="Rod16"/><basic-event name="Rod17"/><basic-event name="Rod18"/><basic-event name="Rod19"/><basic-event name="Rod20"/><basic-event name="Rod21"/>
 </and></define-gate>
 </define-fault-tree>
 <model-data>
-<define-basic-event name="R01"/><define-basic-event name="R02"/><define-basic-event name="R03"/><define-basic-event name="R04"/><define-basic-event name="R05"/><define-basic-event name="R06"/><define-basic-event name="R07"/>
-<define-basic-event name="R08"/><define-basic-event name="R09"/><define-basic-event name="R10"/><define-basic-event name="R11"/><define-basic-event name="R12"/><define-basic-event name="R13"/><define-basic-event name="R14"/>
-<define-basic-event name="R15"/><define-basic-event name="R16"/><define-basic-event name="R17"/><define-basic-event name="R18"/><define-basic-event name="R19"/><define-basic-event name="R20"/><define-basic-event name="R21"/>
+<define-basic-event name="Rod01"/><define-basic-event name="Rod02"/><define-basic-event name="Rod03"/><define-basic-event name="Rod04"/><define-basic-event name="Rod05"/><define-basic-event name="Rod06"/><define-basic-event name="Rod07"/>
+<define-basic-event name="Rod08"/><define-basic-event name="Rod09"/><define-basic-event name="Rod10"/><define-basic-event name="Rod11"/><define-basic-event name="Rod12"/><define-basic-event name="Rod13"/><define-basic-event name="Rod14"/>
+<define-basic-event name="Rod15"/><define-basic-event name="Rod16"/><define-basic-event name="Rod17"/><define-basic-event name="Rod18"/><define-basic-event name="Rod19"/><define-basic-event name="Rod20"/><define-basic-event name="Rod21"/>
 </model-data>
 </opsa-mef>
 $ examples/order.xml => Done
@@ -321,15 +321,15 @@ count 0
 <opsa-mef>
 <define-fault-tree name="Rods">
 <define-gate name="AllStuck"><and>
-<basic-event name="R01"/><basic-event name="R02"/><basic-event name="R03"/><basic-event name="R04"/><basic-event name="R05"/><basic-event name="R06"/><basic-event name="R07"/>
-<basic-event name="R08"/><basic-event name="R09"/><basic-event name="R10"/><basic-event name="R11"/><basic-event name="R12"/><basic-event name="R13"/><basic-event name="R14"/>
-<basic-event name="R15"/><basic-event name="R16"/><basic-event name="R17"/><basic-event name="R18"/><basic-event name="R19"/><basic-event name="R20"/><basic-event name="R21"/>
+<basic-event name="Rod01"/><basic-event name="Rod02"/><basic-event name="Rod03"/><basic-event name="Rod04"/><basic-event name="Rod05"/><basic-event name="Rod06"/><basic-event name="Rod07"/>
+<basic-event name="Rod08"/><basic-event name="Rod09"/><basic-event name="Rod10"/><basic-event name="Rod11"/><basic-event name="Rod12"/><basic-event name="Rod13"/><basic-event name="Rod14"/>
+<basic-event name="Rod15"/><basic-event name="Rod16"/><basic-event name="Rod17"/><basic-event name="Rod18"/><basic-event name="Rod19"/><basic-event name="Rod20"/><basic-event name="Rod21"/>
 </and></define-gate>
 </define-fault-tree>
 <model-data>
-<define-basic-event name="R01"/><define-basic-event name="R02"/><define-basic-event name="R03"/><define-basic-event name="R04"/><define-basic-event name="R05"/><define-basic-event name="R06"/><define-basic-event name="R07"/>
-<define-basic-event name="R08"/><define-basic-event name="R09"/><define-basic-event name="R10"/><define-basic-event name="R11"/><define-basic-event name="R12"/><define-basic-event name="R13"/><define-basic-event name="R14"/>
-<define-basic-event name="R15"/><define-basic-event name="R16"/><define-basic-event name="R17"/><define-basic-event name="R18"/><define-basic-event name="R19"/><define-basic-event name="R20"/><define-basic-event name="R21"/>
+<define-basic-event name="Rod01"/><define-basic-event name="Rod02"/><define-basic-event name="Rod03"/><define-basic-event name="Rod04"/><define-basic-event name="Rod05"/><define-basic-event name="Rod06"/><define-basic-event name="Rod07"/>
+<define-basic-event name="Rod08"/><define-basic-event name="Rod09"/><define-basic-event name="Rod10"/><define-basic-event name="Rod11"/><define-basic-event name="Rod12"/><define-basic-event name="Rod13"/><define-basic-event name="Rod14"/>
+<define-basic-event name="Rod15"/><define-basic-event name="Rod16"/><define-basic-event name="Rod17"/><define-basic-event name="Rod18"/><define-basic-event name="Rod19"/><define-basic-event name="Rod20"/><define-basic-event name="Rod21"/>
 </model-data>
 </opsa-mef>
 $ -l 21 examples/order.xml => Done
@@ -338,7 +338,7 @@ algorithm bdd
 products minimal-cut-sets
 limit-order 21
 top-event Rods AllStuck
-- 21 R01 R02 R03 R04 R05 R06 R07 R08 R09 R10 R11 R12 R13 R14 R15 R16 R17 R18 R19 R20 R21
+- 21 Rod01 Rod02 Rod03 Rod04 Rod05 Rod06 Rod07 Rod08 Rod09 Rod10 Rod11 Rod12 Rod13 Rod14 Rod15 Rod16 Rod17 Rod18 Rod19 Rod20 Rod21
 count 1
 
 # docs/report.md
