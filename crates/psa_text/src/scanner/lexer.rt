@@ -22,17 +22,21 @@ use arrayvec::ArrayVec;
 use std::alloc::Global;
 use std::marker::Model;
 use std::mem;
+use thiserror::Error;
 
 /// The letters of a doctype behind `<!D`.
 const DOCTYPE_LETTERS: &[u8] = b"OCTYPE";
 
 /// Why a byte is refused.
-#[derive(Debug, Clone, Copy, PartialEq, Eq, Drop)]
+#[derive(Debug, Clone, Copy, PartialEq, Eq, Drop, Error)]
 pub enum TokenError {
     /// No item has it there, or it ends what is no text or no character.
+    #[error("no item has the byte there")]
     Bad,
     /// It is one too many, of a name, a value or a tag's attributes.
+    #[error("the byte is one too many")]
     Long,
+    #[error("out of memory")]
     Memory,
 }
 
