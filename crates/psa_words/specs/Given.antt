@@ -173,6 +173,7 @@ settings_with given limit cut mission nodes input = record {
 }
 
 infixl 10 ◌>>=◌
+-- a function of a value, where there is one, and it gives one
 abbrev pub ◌>>=◌ : {A B : Type 0} → Option A → (A → Option B) → Option B
 x >>= f = option_and_then f x
 
