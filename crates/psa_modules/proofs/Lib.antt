@@ -4,3 +4,5 @@ pub mod SubstitutionLemmas
 pub mod LengthLemmas
 pub mod LoneLemmas
 pub mod TrainLemmas
+pub mod OccurrenceForms
+pub mod ExampleLemmas

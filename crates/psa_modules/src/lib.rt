@@ -1,8 +1,10 @@
-//! Modules of fault trees: that the minimal cut sets of the whole are those of its quotient, with a
-//! minimal cut set put for each module. No program calls it yet. The laws are the contracts of
-//! functions with empty bodies.
+//! Modules of fault trees: gates that share no event with the rest. What a module and the quotient of
+//! a top event are, and that the minimal cut sets of the whole are those of its quotient, with a
+//! minimal cut set put for each module. No program calls it yet. The laws and examples are the
+//! contracts of functions with empty bodies.
 #![tactic(auto)]
 
+pub mod examples;
 mod laws;
 
 pub use laws::{
