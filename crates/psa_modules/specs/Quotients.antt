@@ -15,6 +15,7 @@ use Rattle.psa_model.specs.declared.model.Valued.{Valued}
 use Rattle.psa_model.specs.declared.model.Valued.TheVariants as valued
 use Rattle.psa_logic.specs.Sets.{Has}
 use Rattle.psa_model.specs.Events.{covers}
+use Rattle.psa_model.specs.Truth.{IsResolved}
 use Rattle.psa_modules.specs.OuterModules.{outer_modules}
 
 -- the place of a gate among some, where they begin at a place
@@ -71,3 +72,8 @@ abbrev pub IsOfBasics : Expanded → Type 0
 IsOfBasics expanded =
     (basic : ℕ) (one : ExpandedEvent) → Has expanded.events one → covers expanded.model basic one ≡ true
     → basic < length expanded.model.basics
+
+-- What the laws of modules ask of a model with its events: references stand, and events are those of basic events.
+pub record IsExpansion (expanded : Expanded) : Type 0 where
+  pub resolved : IsResolved expanded.model
+  pub basics : IsOfBasics expanded
