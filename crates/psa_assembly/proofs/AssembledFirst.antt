@@ -21,9 +21,9 @@ use Rattle.psa_names.specs.Collected.{collected_before}
 use Rattle.psa_names.specs.NameFaults.{name_fault}
 use Rattle.psa_assembly.specs.declared.assembly.Assembly.{Assembly}
 use Rattle.psa_assembly.specs.Assembling.{IsPromised, IsNext, Adds, lists_of, with_lists, joined_lists, no_lists, formulas_of}
-use Rattle.psa_assembly.proofs.NumberedDefinitions.{get-map}
-use Rattle.psa_assembly.proofs.NumberingInOrder.{IsNumberable, take-next, drop-next, count-few, group-or-none, group-family}
-use Rattle.psa_assembly.proofs.Numberable.{numberable}
+use Rattle.psa_bodies.proofs.NumberedDefinitions.{get-map}
+use Rattle.psa_bodies.proofs.NumberingInOrder.{IsNumberable, take-next, drop-next, count-few, group-or-none, group-family}
+use Rattle.psa_bodies.proofs.Numberable.{numberable}
 
 -- ---- lists
 

@@ -17,8 +17,8 @@ use Rattle.psa_names.specs.Resolved.{resolved_formula}
 use Rattle.psa_names.specs.Collected.{collected_in}
 use Rattle.psa_names.specs.ModelOfDraft.{gate_of, basics_of, group_of}
 use Rattle.psa_assembly.specs.declared.assembly.Assembly.{Assembly}
-use Rattle.psa_assembly.specs.Made.{house_of, parameter_of, fault_tree_of, functional_of, initiating_of}
-use Rattle.psa_assembly.specs.MadeWalks.{rule_of, sequence_of, event_tree_of, named_branch_of}
+use Rattle.psa_bodies.specs.Made.{house_of, parameter_of, fault_tree_of, functional_of, initiating_of}
+use Rattle.psa_bodies.specs.MadeWalks.{rule_of, sequence_of, event_tree_of, named_branch_of}
 
 -- what is promised of a definition of a draft
 pub record IsPromised (definition : DraftDefinition) : Type 0 where

@@ -5,14 +5,13 @@ ghost use Rattle.psa_names.specs.Outlines.{entry_of, entries_of};
 ghost use Rattle.psa_names.specs.Collected.{collected_before, collected_in};
 ghost use Rattle.psa_names.specs.Resolved.{resolved_formula};
 ghost use Rattle.psa_assembly.specs.Assembling.{Adds, IsNext, IsPromised};
-ghost use Rattle.psa_assembly.specs.Made.{IsContext};
+ghost use Rattle.psa_bodies.specs.Made.{IsContext};
 
 use crate::assembly::Assembly;
-use crate::collected::Collected;
-use crate::context::Context;
 use crate::groups::{make_group, push_events, resolve_members};
-use crate::trees::number_of;
-use crate::walks::{make_event_tree, make_named_branch, make_rule, make_sequence};
+use psa_bodies::{
+    Collected, Context, make_event_tree, make_named_branch, make_rule, make_sequence, number_of,
+};
 use psa_model::{
     DefinitionKind, DraftBody, DraftBranch, DraftDefinition, DraftGroup, DraftInstruction,
     DraftReference, Formula,

@@ -6,16 +6,14 @@ ghost use Rattle.psa_names.specs.ModelOfDraft.{model_of};
 ghost use Rattle.psa_names.specs.NameFaults.{name_fault};
 ghost use Rattle.psa_names.specs.Outlines.{entries_of};
 ghost use Rattle.psa_assembly.specs.Assembling.{formulas_of, joined_lists};
-ghost use Rattle.psa_assembly.specs.Made.{IsContext};
+ghost use Rattle.psa_bodies.specs.Made.{IsContext};
 
 use crate::assembly::Assembly;
-use crate::contents::order_contents;
-use crate::context::{Context, context_of};
-use crate::joining::join_in_order;
-use crate::numbering::number_definitions;
-use crate::trees::places_of_kind;
 use crate::values::values_in_order;
-use psa_model::{DefinitionKind, Draft, Formula, Model};
+use psa_bodies::{
+    Context, context_of, join_in_order, number_definitions, order_contents, places_of_kind,
+};
+use psa_model::{DefinitionKind, Draft, Formula, Model, Valued};
 use psa_names::Found;
 use psa_text::{Items, OutOfMemory};
 use std::alloc::Global;
@@ -37,9 +35,18 @@ pub fn model_of_found(alloc: Global, draft: &Draft, found: &Found) -> Result<Mod
     let mut lists = Vec::new(alloc);
     let before = contents.before.as_slice();
     let mut model = assemble(alloc, &context, found, before, &mut lists)?;
-    model.formulas = join_in_order(alloc, lists, contents.sequence.as_slice())?;
-    model.order = values_in_order(alloc, &numbers, model.groups.as_slice())?;
+    let formulas = join_in_order(alloc, lists, contents.sequence.as_slice())?;
+    let order = values_in_order(alloc, &numbers, model.groups.as_slice())?;
+    complete(&mut model, formulas, order);
     Ok(model)
+}
+
+/// Puts the formulas and the order of values into a model that has all else.
+fn complete(model: &mut Model, formulas: Items<Formula>, order: Items<Valued>)
+    ensures { model.new ≡ record model.old { formulas = formulas; order = order } }
+{
+    model.formulas = formulas;
+    model.order = order;
 }
 
 /// The lists of the model that follow the definitions. The formulas that each definition collects,
@@ -69,5 +76,5 @@ fn assemble(
         let formulas = assembly.add_definition(alloc, context, definition, number)?;
         lists.push(formulas)?;
     }
-    Ok(assembly.model)
+    Ok(assembly.into_model())
 }

@@ -1,7 +1,7 @@
 use Rattle.std.proofs.Common.{arith, map, ap, ◌∙◌}
 use Rattle.psa_names.specs.Outlines.{entry_of, entries_of}
 use Rattle.psa_assembly.specs.Assembling.{joined_lists, formulas_of}
-use Rattle.psa_assembly.proofs.Numberable.{numberable, entry-in}
+use Rattle.psa_bodies.proofs.Numberable.{numberable, entry-in}
 use Rattle.psa_assembly.proofs.CollectedFew.{collected-few}
 use Rattle.psa_assembly.proofs.AssembledFirst.{none-assembled, next-assembled, more-assembled, promised-at, number-before, inside-before, all-assembled}
 use Rattle.psa_assembly.proofs.model.assemble.Goals as goal
@@ -48,6 +48,6 @@ returns c =
     let entries = entries_of c.args.context.now.draft.now in
     let all = all-assembled c.args.context.now.draft.now c.as_slice-definition-items.result.now c.loop-place.place c.as_slice-definition-items.ensures c.loop-place-test.false in
     record {
-      model = c.loop-place.invariant.model ∙ ap (joined_lists entries) all;
+      model = c.into_model.ensures ∙ c.loop-place.invariant.model ∙ ap (joined_lists entries) all;
       lists = c.loop-place.invariant.lists_are ∙ ap (map (formulas_of entries)) all;
     }

@@ -41,6 +41,8 @@ returns c =
     let entries = entries_of c.args.draft.now in
     let model = c.in_ok-model.ensures.model ∙ ap (λ (d : Draft). joined_lists (entries_of d) (entries_of d)) c.context_of-context.ensures.draft in
     let lists = c.in_ok-model.ensures.lists ∙ ap (λ (d : Draft). map (formulas_of (entries_of d)) (entries_of d)) c.context_of-context.ensures.draft in
-    model-made entries c.in_ok-model.model c.in_ok-model-2.field-0 c.in_ok-model-3.field-0 model
-    (formulas-made entries c.assemble.new.lists.items c.as_slice-2.result.now c.in_ok-model-2.field-0 lists (ap (map _) c.as_slice-2.ensures ∙ c.in_ok-contents.ensures.sequence) c.in_ok-model-2.ensures)
-    (order-made entries c.in_ok-numbers.numbers c.as_slice-3.result.now c.in_ok-model-3.field-0 c.in_ok-numbers.ensures (c.as_slice-3.ensures ∙ ap (λ m. m.groups) model) c.in_ok-model-3.ensures)
+    c.complete.ensures ∙ model-made entries c.in_ok-model.model c.in_ok-formulas.formulas c.in_ok-order.order model
+    (formulas-made entries c.assemble.new.lists.items c.as_slice-2.result.now c.in_ok-formulas.formulas lists
+    (ap (map _) c.as_slice-2.ensures ∙ c.in_ok-contents.ensures.sequence) c.in_ok-formulas.ensures)
+    (order-made entries c.in_ok-numbers.numbers c.as_slice-3.result.now c.in_ok-order.order c.in_ok-numbers.ensures
+    (c.as_slice-3.ensures ∙ ap (λ m. m.groups) model) c.in_ok-order.ensures)
