@@ -11,7 +11,8 @@ use psa_bodies::{
     make_house_event, make_initiating_event, make_parameter, number_of,
 };
 use psa_model::{
-    DefinitionKind, DraftDefinition, DraftExpression, DraftFormula, DraftReference, Model,
+    DefinitionKind, DraftDefinition, DraftExpression, DraftFormula, DraftReference, Formula, Model,
+    Valued,
 };
 use psa_names::Found;
 use psa_text::{Items, OutOfMemory};
@@ -72,6 +73,14 @@ impl<'a> Assembly<'a> {
         ensures { result ≡ self.entry.model }
     {
         self.model
+    }
+
+    /// Puts the formulas and the order of values into the model.
+    pub fn complete(&mut self, formulas: Items<Formula>, order: Items<Valued>)
+        ensures { self.new.model ≡ record self.old.model { formulas = formulas; order = order } }
+    {
+        self.model.formulas = formulas;
+        self.model.order = order;
     }
 
     /// Adds the definition of a kind that says nothing: a fault tree or a functional event.
