@@ -89,12 +89,13 @@ class Spec:
                 end -= 1
             body = lines[i:end]
             self.items[name] = Item(name, path, i + 1, comment_of(lines, i) or comment_of(lines, top), body)
-            self.owners.setdefault(name, name)
             if re.match(r"^\s*(?:pub\s+)?(?:record|data)", lines[i]):
                 for line in body[1:]:
                     field = re.match(r"^\s+(?:pub\s+)?([\w\-']+(?:\s+[\w\-']+)*)\s*:", line)
                     for word in field.group(1).split() if field else []:
                         self.owners.setdefault(word, name)
+        # (a definition may have the name of a record's field)
+        self.owners.update({name: name for name in self.items})
 
 
 def starts_of(lines):
