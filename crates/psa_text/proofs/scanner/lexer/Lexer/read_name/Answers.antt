@@ -1,11 +1,11 @@
-use Rattle.std.proofs.Common.{sym, subst}
+use Rattle.std.proofs.Common.{sym, subst, true}
 use Rattle.psa_text.specs.scanner.View.{IsInName, lex_of}
 use Rattle.psa_text.proofs.scanner.SpansInFront.{first_and_rest}
 use Rattle.psa_text.proofs.scanner.SpansRead.{within_none, within_more}
 use Rattle.psa_text.proofs.scanner.lexer.Lexer.read_name.Goals as goal
 
 pub loop-bytes-init : goal.loop-bytes-init
-loop-bytes-init c = (c.requires, within_none (lex_of c.args.self.now) c.args.bytes.now)
+loop-bytes-init c = (c.requires, within_none true (lex_of c.args.self.now) c.args.bytes.now)
 
 pub loop-bytes-preserved : goal.loop-bytes-preserved
 loop-bytes-preserved c =
