@@ -21,7 +21,8 @@ and_within IsLong f = None
 
 abbrev pub state_after_within : Bool → Lex → List ℕ → Option Lex
 state_after_within full p [] = Some p
-state_after_within full p (b ∷ bs) = if full && begins_tag p b then None else and_within (judgement p b) (λ q. state_after_within full q bs)
+state_after_within full p (b ∷ bs) = if full && begins_tag p b then None else and_within (judgement p b)
+    (λ q. state_after_within full q bs)
 
 -- Of the bytes those in front of the rest stay within the item, and lead the machine on.
 pub record ReadsWithin (full : Bool) (old : Lex) (bytes : List ℕ) (now : Lex) (rest : List ℕ) : Type 0 where
@@ -31,7 +32,8 @@ pub record ReadsWithin (full : Bool) (old : Lex) (bytes : List ℕ) (now : Lex) 
 
 -- A byte is taken, and the machine stays within the item; or it is left.
 abbrev pub Takes : ℕ → Held → Held → Bool → Type 0
-Takes b old now true = (begins_tag (lex_of old) b ≡ false) × (judgement (lex_of old) b ≡ On (lex_of now)) × (now.place ≡ old.place)
+Takes b old now true = (begins_tag (lex_of old) b ≡ false) × (judgement (lex_of old) b ≡ On (lex_of now)) ×
+    (now.place ≡ old.place)
 Takes b old now false = now ≡ old
 
 -- Of the bytes those in front of the rest are read, and none decides a fault.
@@ -74,12 +76,14 @@ pub record IsValueAt (quote : ℕ) (bytes value rest : List ℕ) : Type 0 where
 
 -- The name of a tag is whole, where it is text.
 abbrev pub BeginsTag : Held → Held → Bool → Type 0
-BeginsTag old now true = (is_utf8 old.name ≡ true) × (now ≡ record old { tag = record { name = old.name; attributes = [] } })
+BeginsTag old now true = (is_utf8 old.name ≡ true) × (now ≡ record old
+    { tag = record { name = old.name; attributes = [] } })
 BeginsTag old now false = now ≡ old
 
 -- An attribute is read whole, or nothing is.
 abbrev pub ReadsAttribute : Held → List ℕ → Held → Option (List ℕ) → Type 0
-ReadsAttribute old bytes now (Some rest) = (now.place ≡ place.Behind) × ReadsWithin false (lex_of old) bytes (lex_of now) rest
+ReadsAttribute old bytes now (Some rest) = (now.place ≡ place.Behind) × ReadsWithin false (lex_of old) bytes
+    (lex_of now) rest
 ReadsAttribute old bytes now None = now ≡ old
 
 -- any byte but one
@@ -97,5 +101,9 @@ line_after_bytes line bytes = line + count_by (λ b. b == line_feed) bytes
 
 -- Bytes and their lines are counted.
 pub record CountsAll (bytes : List ℕ) (old now : Scanner) : Type 0 where
-  pub scan : scan_of now ≡ record (scan_of old) { count = old.count + length bytes; line = line_after_bytes old.line bytes }
+  pub scan : scan_of now ≡ record (scan_of old) {
+    count = old.count + length bytes;
+    line = line_after_bytes old.line
+        bytes;
+  }
   pub failed : now.failed ≡ old.failed

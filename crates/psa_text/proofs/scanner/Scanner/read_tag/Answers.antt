@@ -12,6 +12,9 @@ pub returns-clause-read : goal.returns-clause-read
 returns-clause-read c =
     let old = c.args.self.now in
     let rest = c.read_tag-rest in
-    let same = c.split_at.ensures.front ∙ front_is c.args.bytes.now rest.ensures.span rest.result.now rest.ensures.joined in
+    let same = c.split_at.ensures.front ∙ front_is c.args.bytes.now rest.ensures.span rest.result.now
+    rest.ensures.joined in
     rw (c.count_bytes.ensures.scan, same)
-    (span_within old.mark c.requires.mark old.count old.line old.start old.elements (state_of old.builder) false (other old.elements c.requires.few) (lex_of old.lexer) (lex_of rest.new.self) c.args.bytes.now rest.result.now c.requires.room rest.ensures)
+    (span_within old.mark c.requires.mark old.count old.line old.start old.elements (state_of old.builder) false
+    (other old.elements c.requires.few) (lex_of old.lexer) (lex_of rest.new.self) c.args.bytes.now rest.result.now
+    c.requires.room rest.ensures)

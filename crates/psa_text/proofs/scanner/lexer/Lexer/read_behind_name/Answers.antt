@@ -15,5 +15,7 @@ returns-in-Some-behind_blank c =
     let begun = c.if-begin_tag.ensures in
     let held = ap (λ (h : Held). h.tag) (c.self.view_is ∙ begun.1) in
     rw c.requires
-    (within_first (Name name) (Gap c.self.inside.tag) (lex_of c.read_attributes.new.self) blank.byte c.args.bytes.now c.in-Some-behind_blank.rest.now c.read_attributes.result.now blank.joined
-    (name_blank name blank.byte begun.0 blank.blank ∙ ap (λ (t : Tag). On (Gap t)) (sym held)) c.read_attributes.ensures)
+    (within_first (Name name) (Gap c.self.inside.tag) (lex_of c.read_attributes.new.self) blank.byte c.args.bytes.now
+    c.in-Some-behind_blank.rest.now c.read_attributes.result.now blank.joined
+    (name_blank name blank.byte begun.0 blank.blank ∙ ap (λ (t : Tag). On (Gap t)) (sym held))
+    c.read_attributes.ensures)

@@ -12,4 +12,5 @@ returns c =
     let begun = c.if-not-begin_tag.ensures in
     let end = Slash (record { name = name; attributes = [] }) in
     rw (c.requires.place, ap (λ (h : Held). h.tag) (c.self.view_is ∙ begun.1))
-    (within_first (Name name) end end 47 c.args.bytes.now rest rest c.requires.slash (name_slash name begun.0) (within_none false end rest))
+    (within_first (Name name) end end 47 c.args.bytes.now rest rest c.requires.slash (name_slash name begun.0)
+    (within_none false end rest))

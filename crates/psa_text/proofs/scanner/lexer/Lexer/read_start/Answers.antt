@@ -11,5 +11,6 @@ returns-in-Ok c =
     let items = c.try_extend_from_slice.new.self.items in
     let same : items ≡ name = c.in-Ok.ensures.ok ∙ ap (λ (xs : List ℕ). xs ++ name) c.clear.ensures in
     rw c.requires
-    (within_then false Opened (Name items) (lex_of c.read_behind_name.new.self) c.args.bytes.now c.in-Some.rest.now c.read_behind_name.result.now
+    (within_then false Opened (Name items) (lex_of c.read_behind_name.new.self) c.args.bytes.now c.in-Some.rest.now
+    c.read_behind_name.result.now
     (rw same (start_name c.args.bytes.now name c.in-Some.rest.now c.in-Some.ensures)) c.read_behind_name.ensures)
