@@ -1,6 +1,5 @@
 use Rattle.std.proofs.Common.{◌∙◌, ap, arith, length}
 use Rattle.psa_text.specs.scanner.View.{Held}
-use Rattle.psa_text.specs.TextBytes.{trimmed}
 use Rattle.psa_text.proofs.scanner.TagsRead.{attribute_held}
 use Rattle.psa_text.proofs.scanner.lexer.Lexer.read_attribute.Goals as goal
 
