@@ -1,7 +1,7 @@
 use Rattle.std.proofs.Common.{codes, refl}
 use Rattle.psa_model.specs.Report.{ends_text}
 use Rattle.psa_report.proofs.WrittenLemmas.{left-of, left-stop, left-next, left-last}
-use Rattle.psa_report.proofs.products.put_some_bound.Goals as goal
+use Rattle.psa_report.proofs.products.put_wide_bound.Goals as goal
 
 pub returns-in_err-put_one : goal.returns-in_err-put_one
 returns-in_err-put_one g c =
