@@ -14,3 +14,4 @@ pub mod QuotientTruth
 pub mod NamingLemmas
 pub mod PutLemmas
 pub mod ProductLemmas
+pub mod ChoiceLemmas

@@ -12,4 +12,6 @@ pub use laws::{
     cut_sets_are_substitutions, lone_events_are_modules, substitutions_are_determined,
     substitutions_are_longest, two_trains_fail,
 };
-pub use product_laws::{products_are_put_together, products_come_once};
+pub use product_laws::{
+    each_choice_is_put_together, products_are_put_together, products_come_once,
+};

@@ -38,3 +38,15 @@ pub fn products_come_once()
         → slice_get (outer_modules analysis.expanded top) place ≡ Some gate
         → has_module analysis top whole place ≡ true → puts place ≡ others place }
 {}
+
+/// And each product of the quotient, with a product of its module for each added event, gives a set.
+pub fn each_choice_is_put_together()
+    ensures { (analysis : Analysis) (top : ℕ) (whole : List ℕ) (puts : ℕ → List ℕ)
+        → IsExpansion analysis.expanded
+        → target_stands analysis.expanded.model (gate_target top) ≡ true
+        → analysis.settings.mode ≡ CutSets
+        → IsProductOf (quotient_analysis analysis top) (gate_target top) whole
+        → ((place gate : ℕ) → slice_get (outer_modules analysis.expanded top) place ≡ Some gate
+        → has_module analysis top whole place ≡ true → IsProductOf analysis (gate_target gate) (puts place))
+        → (product : List ℕ) × IsPutTogether analysis top whole puts product }
+{}

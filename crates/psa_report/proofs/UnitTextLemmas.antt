@@ -1,5 +1,5 @@
 -- The text of a number of units within 0 and 1, digit by digit.
-use Rattle.std.proofs.Common.{Bool, false, nat_lt, le-ltb, ◌≡◌, ◌∙◌, ◌+◌, ◌*◌, ◌/◌, ◌%◌, ◌<◌, ◌≤◌, ◌≤ℤ◌, ℕ, ℤ, pos, negsuc, zero, suc, List, [], ◌∷◌, ◌++◌, codes, unsigned_abs, refl, ap, ap₂, sym, append_assoc, arith}
+use Rattle.std.proofs.Common.{false, nat_lt, le-ltb, ◌≡◌, ◌∙◌, ◌+◌, ◌/◌, ◌%◌, ◌<◌, ◌≤◌, ◌≤ℤ◌, ℕ, ℤ, pos, negsuc, suc, List, [], ◌∷◌, ◌++◌, unsigned_abs, refl, ap, ap₂, sym, append_assoc, arith}
 use Rattle.std.specs.Fmt.{decimal}
 use Rattle.std.proofs.lemmas.Fmt.{decimal_digit}
 use Rattle.std.proofs.lemmas.Int.{ints}

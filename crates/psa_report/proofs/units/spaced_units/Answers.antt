@@ -1,4 +1,4 @@
-use Rattle.std.proofs.Common.{◌≡◌, ◌/◌, ◌%◌, ◌∷◌, ◌++◌, [], ℕ, List, unsigned_abs, ap, ap₂, refl}
+use Rattle.std.proofs.Common.{◌∷◌, ◌++◌, [], ℕ, List, unsigned_abs, ap, ap₂, refl}
 use Rattle.std.specs.Int.{w128}
 use Rattle.std.proofs.lemmas.Int.{to_z-of_z}
 use Rattle.psa_report.proofs.UnitTextLemmas.{unit_text}
