@@ -9,7 +9,6 @@ use Rattle.psa_model.specs.declared.formula.Formula.TheViews.{out-Formula}
 use Rattle.psa_model.specs.declared.model.BasicEvent.{BasicEvent}
 use Rattle.psa_model.specs.declared.model.House.{House}
 use Rattle.psa_model.specs.declared.model.Model.{Model}
-use Rattle.psa_model.specs.declared.model.Sequence.{Sequence}
 use Rattle.psa_model.specs.declared.walks.Branch.{Branch}
 use Rattle.psa_model.specs.declared.walks.BranchEnd.{BranchEnd}
 use Rattle.psa_model.specs.declared.walks.BranchEnd.TheOpen.{BranchEnd-F}

@@ -1,5 +1,5 @@
 -- A model with other basic events and house events has the same paths and targets, and each target the same events.
-use Rattle.std.proofs.Common.{◌≡◌, ℕ, zero, suc, ◌+◌, Bool, List, [], ◌∷◌, ◌++◌, Option, Some, None, length, map, nat_lt, refl, ap, ap₂, ◌∙◌}
+use Rattle.std.proofs.Common.{◌≡◌, ℕ, zero, suc, Bool, List, [], ◌∷◌, ◌++◌, Option, Some, None, length, map, nat_lt, refl, ap, ap₂, ◌∙◌}
 use Rattle.std.specs.Prelude.{if◌then◌else◌}
 use Rattle.std.specs.List.{slice_get, slice_set, flat_map}
 use Rattle.std.specs.Option.{option_or}
@@ -15,7 +15,6 @@ use Rattle.psa_model.specs.declared.model.BasicEvent.{BasicEvent}
 use Rattle.psa_model.specs.declared.model.House.{House}
 use Rattle.psa_model.specs.declared.model.Initiating.{Initiating}
 use Rattle.psa_model.specs.declared.model.Model.{Model}
-use Rattle.psa_model.specs.declared.model.Sequence.{Sequence}
 use Rattle.psa_model.specs.declared.model.TheConstants.{MAX_DEPTH}
 use Rattle.psa_model.specs.declared.targets.PathStep.{PathStep}
 use Rattle.psa_model.specs.declared.targets.PathStep.TheVariants.{Collect, Set}

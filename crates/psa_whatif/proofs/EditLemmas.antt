@@ -12,12 +12,10 @@ use Rattle.psa_number.specs.Ends.{Ends}
 use Rattle.psa_number.specs.Scaled.{Scaled}
 use Rattle.psa_model.specs.declared.expanded.Expanded.{Expanded}
 use Rattle.psa_model.specs.declared.expanded.ExpandedEvent.{ExpandedEvent}
-use Rattle.psa_model.specs.declared.expression.Expression.TheVariants as expression
 use Rattle.psa_model.specs.declared.fault.ModelFault.{ModelFault}
 use Rattle.psa_model.specs.declared.ids.EventNumber.{EventNumber}
 use Rattle.psa_model.specs.declared.ids.Place.{Place}
 use Rattle.psa_model.specs.declared.model.BasicEvent.{BasicEvent}
-use Rattle.psa_model.specs.declared.model.Group.{Group}
 use Rattle.psa_model.specs.declared.model.House.{House}
 use Rattle.psa_model.specs.declared.model.Model.{Model}
 use Rattle.psa_model.specs.declared.model.Valued.{Valued}

@@ -8,7 +8,6 @@ use Rattle.psa_model.specs.declared.formula.Formula.{Formula}
 use Rattle.psa_model.specs.declared.formula.Formula.TheVariants as formula
 use Rattle.psa_model.specs.declared.model.BasicEvent.{BasicEvent}
 use Rattle.psa_model.specs.declared.model.Gate.{Gate}
-use Rattle.psa_model.specs.declared.model.House.{House}
 use Rattle.psa_model.specs.declared.model.Model.{Model}
 use Rattle.psa_model.specs.declared.model.Valued.TheVariants as valued
 use Rattle.psa_model.specs.declared.settings.Algorithm.TheVariants.{Bdd}
