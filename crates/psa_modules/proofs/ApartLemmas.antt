@@ -40,7 +40,7 @@ pub record HasModule (expanded : Expanded) (top gate : ℕ) : Type 0 where
   pub none : is_module expanded top gate ≡ true
 
 -- the second of two of which the first is not so
-or-second : (a b : Bool) → (not a || b) ≡ true → a ≡ true → b ≡ true
+pub or-second : (a b : Bool) → (not a || b) ≡ true → a ≡ true → b ≡ true
 or-second true b h k = h
 or-second false b h k = absurd (false≢true k)
 
@@ -59,7 +59,8 @@ module-has expanded top gate h =
       is = found.2;
       keeps = λ place event has at inside.
           or-second (shows_event_of expanded gate place) (is_inside gate place)
-          (all-has (λ p. not (shows_event_of expanded gate p) || is_inside gate p) (occurrences_in expanded.model top) two.1 place has)
+          (all-has (λ p. not (shows_event_of expanded gate p) || is_inside gate p)
+          (occurrences_in expanded.model top) two.1 place has)
           (any-from (occurs (events_inside expanded gate)) (events_at expanded place.one) event at
           (has-occurs (events_inside expanded gate) event inside));
       none = h;
@@ -94,7 +95,8 @@ outer-is expanded top gate h =
       free = λ place other has is amid differs.
           let clear : not (list_any (λ o. not (o == gate) && is_inside o place) (modules_of expanded top)) ≡ true =
           or-second (is_gate gate place.one) _
-          (all-has (λ p. not (is_gate gate p.one) || not (list_any (λ o. not (o == gate) && is_inside o p) (modules_of expanded top)))
+          (all-has (λ p. not (is_gate gate p.one) || not
+          (list_any (λ o. not (o == gate) && is_inside o p) (modules_of expanded top)))
           (occurrences_in expanded.model top) kept.0 place has) is in
           elim (cases_Bool (is_inside other place)) [
             | inl p ↦ absurd (false≢true (sym (not-so _ clear)
@@ -114,7 +116,8 @@ outer-is expanded top gate h =
 -- what is inside a place that one steps into
 pub inside-step : (gate : ℕ) (place : Occurrence) (h : Formula)
     → is_inside gate (step_into place h) ≡ (is_inside gate place || is_gate gate place.one)
-inside-step gate place h = list_any-append (is_gate gate) place.around (place.one ∷ []) ∙ or-nothing (is_inside gate place) (is_gate gate place.one)
+inside-step gate place h = list_any-append (is_gate gate) place.around (place.one ∷ []) ∙ or-nothing
+    (is_inside gate place) (is_gate gate place.one)
   where
     or-nothing : (a b : Bool) → (a || (b || false)) ≡ (a || b)
     or-nothing true b = refl
@@ -142,7 +145,8 @@ met-apart (suc n) expanded top g h event enough one other differs inside place h
       | inr part ↦
           let next : Occurrence = step_into place part.0 in
           let there : Has (occurrences_in expanded.model top) next =
-          occurs-part (suc MAX_DEPTH) expanded.model (variant.Gate (record { 0 = top })) place part.0 enough has part.1 in
+          occurs-part (suc MAX_DEPTH) expanded.model
+          (variant.Gate (record { 0 = top })) place part.0 enough has part.1 in
           let still : is_inside g next ≡ true = inside-step g place part.0 ∙ in_g in
           let free : is_gate h part.0 ≡ false = elim (cases_Bool (is_gate h part.0)) [
             | inl p ↦ absurd (false≢true (sym (other.free next g there p one.among differs) ∙ still))

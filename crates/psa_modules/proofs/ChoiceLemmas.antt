@@ -33,10 +33,12 @@ made-below : (expanded : Expanded) (top : ℕ) (of : List ℕ) (puts : ℕ → L
     → (event : ℕ) → made_test expanded top of puts event ≡ true → event < length expanded.events
 made-below expanded top of puts named event h =
     elim (or_cases (nat_lt event (length expanded.events) && occurs of event)
-    (has_put_event expanded (λ i. occurs of (length expanded.events + i)) puts 0 (outer_modules expanded top) event) h) [
+    (has_put_event expanded (λ i. occurs of (length expanded.events + i)) puts 0
+    (outer_modules expanded top) event) h) [
       | inl p ↦ below event (and_parts (nat_lt event (length expanded.events)) (occurs of event) p).0
       | inr p ↦
-          let found = put-from expanded (λ i. occurs of (length expanded.events + i)) puts 0 (outer_modules expanded top)
+          let found = put-from expanded (λ i. occurs of (length expanded.events + i)) puts 0
+          (outer_modules expanded top)
           event p in
           let gate : ℕ = at_place (outer_modules expanded top) found.0 in
           let zeroth : 0 + found.0 ≡ found.0 = omega arith in
@@ -89,7 +91,8 @@ choice-made analysis top whole puts mode is are =
     let named = λ (i : ℕ) (less : i < length (outer_modules analysis.expanded top))
     (put : occurs of (length analysis.expanded.events + i) ≡ true).
     put-named analysis top whole puts mode are i less
-    (named-has (quotient_of analysis.expanded top) top whole of quotient.0 (length analysis.expanded.events + i) ∙ put) in
+    (named-has (quotient_of analysis.expanded top) top whole of quotient.0 (length analysis.expanded.events + i)
+    ∙ put) in
     record {
       ascending = listed-ascending (made_test analysis.expanded top of puts) (length analysis.expanded.events);
       minimal = quotient.1;

@@ -55,19 +55,24 @@ pub trains-outer : (n : ℕ) → outer_at (seven n) trains ≡ 1 ∷ 2 ∷ []
 trains-outer n = simp (occurrences-suc, visits-suc, truth-suc, out-gate, out-basic, out-connective) refl
 
 -- a gate under `and`
-pub under_and-outer : (n : ℕ) → outer_at (seven n) (over_four (g_and And (basic_at 2)) (two_of Or 0 1) (basic_at 3)) ≡ 1 ∷ []
+pub under_and-outer : (n : ℕ) → outer_at (seven n) (over_four (g_and And (basic_at 2)) (two_of Or 0 1) (basic_at 3))
+    ≡ 1 ∷ []
 under_and-outer n = simp (occurrences-suc, visits-suc, truth-suc, out-gate, out-basic, out-connective) refl
 
 -- a gate under `xor`
-pub under_xor-outer : (n : ℕ) → outer_at (seven n) (over_four (g_and Xor (basic_at 2)) (two_of Or 0 1) (basic_at 3)) ≡ []
+pub under_xor-outer : (n : ℕ) → outer_at (seven n) (over_four (g_and Xor (basic_at 2)) (two_of Or 0 1) (basic_at 3))
+    ≡ []
 under_xor-outer n = simp (occurrences-suc, visits-suc, truth-suc, out-gate, out-basic, out-connective) refl
 
 -- two gates that share an event
-pub sharing-outer : (n : ℕ) → outer_at (seven n) (over_four (g_and Or (gate_at 2)) (two_of And 0 1) (two_of And 0 2)) ≡ []
+pub sharing-outer : (n : ℕ) → outer_at (seven n) (over_four (g_and Or (gate_at 2)) (two_of And 0 1) (two_of And 0 2))
+    ≡ []
 sharing-outer n = simp (occurrences-suc, visits-suc, truth-suc, out-gate, out-basic, out-connective) refl
 
 -- a gate that is true at the empty set
-pub true_at_none-outer : (n : ℕ) → outer_at (seven n) (over_four (g_and And (basic_at 2)) (connect Or (connect Not (basic_at 0 ∷ []) ∷ basic_at 1 ∷ [])) (basic_at 3)) ≡ []
+pub true_at_none-outer : (n : ℕ) → outer_at (seven n)
+    (over_four (g_and And (basic_at 2)) (connect Or (connect Not (basic_at 0 ∷ []) ∷ basic_at 1 ∷ [])) (basic_at 3))
+    ≡ []
 true_at_none-outer n = simp (occurrences-suc, visits-suc, truth-suc, out-gate, out-basic, out-connective) refl
 
 -- a gate with one event
@@ -75,7 +80,8 @@ pub one_event-outer : (n : ℕ) → outer_at (seven n) (over_four (g_and Or (bas
 one_event-outer n = simp (occurrences-suc, visits-suc, truth-suc, out-gate, out-basic, out-connective) refl
 
 -- of nested modules the outer one
-pub nested-outer : (n : ℕ) → outer_at (seven n) (over_four (g_and Or (basic_at 2)) (connect And (gate_at 2 ∷ basic_at 3 ∷ [])) (two_of Or 0 1)) ≡ 1 ∷ []
+pub nested-outer : (n : ℕ) → outer_at (seven n) (over_four (g_and Or (basic_at 2))
+    (connect And (gate_at 2 ∷ basic_at 3 ∷ [])) (two_of Or 0 1)) ≡ 1 ∷ []
 nested-outer n = simp (occurrences-suc, visits-suc, truth-suc, out-gate, out-basic, out-connective) refl
 
 -- two members of a group whose members are events
@@ -87,5 +93,6 @@ pub subsets-outer : (n : ℕ) → outer_at (seven n) (over_group true) ≡ []
 subsets-outer n = simp (occurrences-suc, visits-suc, truth-suc, out-gate, out-basic, out-connective) refl
 
 -- the inner one of nested modules is a module
-pub nested-inner : (n : ℕ) → module_at (seven n) (over_four (g_and Or (basic_at 2)) (connect And (gate_at 2 ∷ basic_at 3 ∷ [])) (two_of Or 0 1)) 2 ≡ true
+pub nested-inner : (n : ℕ) → module_at (seven n) (over_four (g_and Or (basic_at 2))
+    (connect And (gate_at 2 ∷ basic_at 3 ∷ [])) (two_of Or 0 1)) 2 ≡ true
 nested-inner n = simp (occurrences-suc, visits-suc, truth-suc, out-gate, out-basic, out-connective) refl

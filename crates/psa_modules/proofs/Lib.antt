@@ -15,3 +15,7 @@ pub mod NamingLemmas
 pub mod PutLemmas
 pub mod ProductLemmas
 pub mod ChoiceLemmas
+pub mod ResolvedLemmas
+pub mod BasicsLemmas
+pub mod CountLemmas
+pub mod WayLemmas

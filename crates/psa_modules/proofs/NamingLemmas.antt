@@ -48,7 +48,8 @@ different-kept keep (x ∷ xs) h =
     let p = and_parts (not (list_any (λ y. y == x) xs)) (are_different xs) h in
     elim (cases_Bool (keep x)) [
       | inl k ↦ rw k (and_from (not (list_any (λ y. y == x) (filter keep xs))) (are_different (filter keep xs))
-          (ap not (any-kept (λ y. y == x) keep xs (not-so (list_any (λ y. y == x) xs) p.0))) (different-kept keep xs p.1))
+          (ap not (any-kept (λ y. y == x) keep xs (not-so (list_any (λ y. y == x) xs) p.0)))
+          (different-kept keep xs p.1))
       | inr k ↦ rw k (different-kept keep xs p.1)
     ]
   where
@@ -116,11 +117,13 @@ pub ranked-places : (expanded : Expanded) (gate : ℕ)
     → ranked_truth expanded (gate_target gate)
     ≡ over_places (events_of_gate expanded gate) (target_truth expanded (gate_target gate))
 ranked-places expanded gate = λ i s. target_truth expanded (gate_target gate)
-    (tests-same (occurs_by_rank s 0 (ranks_of expanded (gate_target gate))) (by_place s 0 (events_of_gate expanded gate))
+    (tests-same (occurs_by_rank s 0 (ranks_of expanded (gate_target gate)))
+    (by_place s 0 (events_of_gate expanded gate))
     (by-rank s 0 (events_of_gate expanded gate)) i)
 
 -- the truth of a gate looks at its events alone
-pub gate-looks : (expanded : Expanded) (gate : ℕ) → LooksAt (events_of_gate expanded gate) (target_truth expanded (gate_target gate))
+pub gate-looks : (expanded : Expanded) (gate : ℕ) → LooksAt (events_of_gate expanded gate)
+    (target_truth expanded (gate_target gate))
 gate-looks expanded gate s t same =
     truth-looks (suc MAX_DEPTH) expanded (house_states expanded.model) s t (variant.Gate (record { 0 = gate }))
     (λ event has. same event (firsts-has (target_visits expanded (gate_target gate)) event has))
@@ -136,10 +139,12 @@ visits-below (suc n) expanded f event has =
       | inr part ↦ visits-below n expanded part.0 event part.2
     ]
   where
-    layer-below : (layer : Formula-F Formula) → Has (events_at_layer expanded layer) event → event < length expanded.events
+    layer-below : (layer : Formula-F Formula) → Has (events_at_layer expanded layer) event
+        → event < length expanded.events
     layer-below (Formula-F.Gate id) at = absurd at
     layer-below (Formula-F.Basic id) at =
-        let less : event < 0 + length expanded.events = places-below (covers expanded.model id.0) 0 expanded.events event at in
+        let less : event < 0 + length expanded.events = places-below
+        (covers expanded.model id.0) 0 expanded.events event at in
         omega arith
     layer-below (Formula-F.House id) at = absurd at
     layer-below (Formula-F.Constant b) at = absurd at
@@ -196,14 +201,16 @@ pub named-length : (expanded : Expanded) (gate : ℕ) (product numbers : List �
     → length product ≡ length numbers
 named-length expanded gate product numbers is =
     ap length is.positive ∙ (length-positive is.set
-    ∙ renamed-length (events_of_gate expanded gate) is.set numbers (firsts-different (target_visits expanded (gate_target gate))) is.renamed)
+    ∙ renamed-length (events_of_gate expanded gate) is.set numbers
+    (firsts-different (target_visits expanded (gate_target gate))) is.renamed)
 
 -- a set of numbers has one product
 pub named-one : (expanded : Expanded) (gate : ℕ) (one other numbers : List ℕ) → IsNamed expanded gate one numbers
     → IsNamed expanded gate other numbers → one ≡ other
 named-one expanded gate one other numbers left right =
     left.positive ∙ (ap positive_product
-    (places-one (events_of_gate expanded gate) left.set right.set numbers (firsts-different (target_visits expanded (gate_target gate))) left.renamed right.renamed)
+    (places-one (events_of_gate expanded gate) left.set right.set numbers
+    (firsts-different (target_visits expanded (gate_target gate))) left.renamed right.renamed)
     ∙ sym right.positive)
 
 -- the set of the numbers of a product's events
@@ -245,18 +252,21 @@ pub named-from : (expanded : Expanded) (gate limit : ℕ) (product : List ℕ)
     → IsNamed expanded gate product (numbers_by expanded gate product)
     × IsMinimalCutSet (target_truth expanded (gate_target gate)) (numbers_by expanded gate product)
 named-from expanded gate limit product is =
-    let minimal : IsMinimalCutSet (over_places (events_of_gate expanded gate) (target_truth expanded (gate_target gate))) is.set =
+    let minimal : IsMinimalCutSet (over_places (events_of_gate expanded gate)
+    (target_truth expanded (gate_target gate))) is.set =
     subst (λ f. IsMinimalCutSet f is.set) (ranked-places expanded gate) is.minimal in
     let found = renamed-from (events_of_gate expanded gate) (target_truth expanded (gate_target gate)) is.set minimal in
     let renamed : IsRenamed (events_of_gate expanded gate) is.set (numbers_by expanded gate product) =
     renamed-listed expanded gate product is.set is.is_set found.1.ascending found.1.stand in (
       record { set = is.set; positive = is.is_set; renamed = renamed },
       renamed-minimal (events_of_gate expanded gate) (target_truth expanded (gate_target gate)) is.set
-          (numbers_by expanded gate product) (firsts-different (target_visits expanded (gate_target gate))) renamed minimal,
+          (numbers_by expanded gate product) (firsts-different
+          (target_visits expanded (gate_target gate))) renamed minimal,
     )
 
 -- the minimal cut set of a product's numbers is a product
-pub from-named : (expanded : Expanded) (gate limit : ℕ) (product numbers : List ℕ) → IsNamed expanded gate product numbers
+pub from-named : (expanded : Expanded) (gate limit : ℕ) (product numbers : List ℕ)
+    → IsNamed expanded gate product numbers
     → IsMinimalCutSet (target_truth expanded (gate_target gate)) numbers → length numbers ≤ limit
     → IsCutProduct (ranked_truth expanded (gate_target gate)) limit product
 from-named expanded gate limit product numbers is minimal within = record {
@@ -267,14 +277,16 @@ from-named expanded gate limit product numbers is minimal within = record {
       (firsts-different (target_visits expanded (gate_target gate))) is.renamed minimal);
   within =
       let same : length is.set ≡ length numbers =
-      renamed-length (events_of_gate expanded gate) is.set numbers (firsts-different (target_visits expanded (gate_target gate))) is.renamed in
+      renamed-length (events_of_gate expanded gate) is.set numbers
+      (firsts-different (target_visits expanded (gate_target gate))) is.renamed in
       omega arith;
 }
 
 -- the list of literals of a set of numbers
 abbrev pub named_by : Expanded → ℕ → List ℕ → List ℕ
 named_by expanded gate numbers =
-    positive_product (listed (placed (events_of_gate expanded gate) (occurs numbers)) (length (events_of_gate expanded gate)))
+    positive_product (listed (placed (events_of_gate expanded gate) (occurs numbers))
+    (length (events_of_gate expanded gate)))
 
 -- It names them where they are a minimal cut set.
 pub named-by : (expanded : Expanded) (gate : ℕ) (numbers : List ℕ)
@@ -287,7 +299,7 @@ named-by expanded gate numbers minimal = record {
       (firsts-different (target_visits expanded (gate_target gate))) (gate-looks expanded gate) minimal);
 }
 
-length-map : (f : ℕ → EventNumber) (xs : List ℕ) → length (map f xs) ≡ length xs
+pub length-map : (f : ℕ → EventNumber) (xs : List ℕ) → length (map f xs) ≡ length xs
 length-map f [] = refl
 length-map f (x ∷ xs) = ap suc (length-map f xs)
 
@@ -311,7 +323,8 @@ numbers-same expanded gate product numbers is =
     (λ n. ap (λ t. t n) (renamed_one.same ∙ sym is.renamed.same))
 
 -- a named product is one of ranks
-pub occurring-named : (expanded : Expanded) (gate : ℕ) (product numbers : List ℕ) → IsNamed expanded gate product numbers
+pub occurring-named : (expanded : Expanded) (gate : ℕ) (product numbers : List ℕ)
+    → IsNamed expanded gate product numbers
     → IsOccurring expanded (gate_target gate) product
 occurring-named expanded gate product numbers is = record {
   set = is.set;

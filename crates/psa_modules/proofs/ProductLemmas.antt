@@ -51,7 +51,8 @@ from-cut : (analysis : Analysis) (target : Target) (product : List ℕ) → anal
     → IsCutProduct (ranked_truth analysis.expanded target) analysis.settings.limit_order product
     → IsProductOf analysis target product
 from-cut analysis target product mode is =
-    subst (λ m. IsProductIn m (ranked_truth analysis.expanded target) analysis.settings.limit_order product) (sym mode) is
+    subst (λ m. IsProductIn m (ranked_truth analysis.expanded target) analysis.settings.limit_order product)
+    (sym mode) is
 
 -- a product is no longer than the limit
 pub product-within : (analysis : Analysis) (target : Target) (product : List ℕ) → analysis.settings.mode ≡ CutSets
@@ -67,7 +68,8 @@ pub events-by : (analysis : Analysis) (top : ℕ) (whole of : List ℕ) (puts : 
     → IsNamed (quotient_of analysis.expanded top) top whole of → (event : ℕ)
     → ((nat_lt event (length analysis.expanded.events)
     && has_event (quotient_analysis analysis top).expanded (gate_target top) whole event)
-    || has_put_event analysis.expanded (has_module analysis top whole) puts 0 (outer_modules analysis.expanded top) event)
+    || has_put_event analysis.expanded (has_module analysis top whole) puts 0
+    (outer_modules analysis.expanded top) event)
     ≡ ((nat_lt event (length analysis.expanded.events) && occurs of event)
     || has_put_event analysis.expanded (λ i. occurs of (length analysis.expanded.events + i)) puts 0
     (outer_modules analysis.expanded top) event)
@@ -101,7 +103,8 @@ together-made analysis top whole puts product mode together =
     put-named : (i : ℕ) → i < length (outer_modules analysis.expanded top) → has_module analysis top whole i ≡ true
         → IsNamed analysis.expanded (at_place (outer_modules analysis.expanded top) i) (puts i)
         (put_numbers analysis.expanded top puts i)
-        × IsMinimalCutSet (target_truth analysis.expanded (gate_target (at_place (outer_modules analysis.expanded top) i)))
+        × IsMinimalCutSet (target_truth analysis.expanded
+        (gate_target (at_place (outer_modules analysis.expanded top) i)))
         (put_numbers analysis.expanded top puts i)
     put-named i less put =
         let gate : ℕ = at_place (outer_modules analysis.expanded top) i in
@@ -118,7 +121,8 @@ together-product analysis top whole puts product mode sound together within =
     let same : length product ≡ length (numbers_by analysis.expanded top product) =
     named-length analysis.expanded top product (numbers_by analysis.expanded top product) named in
     from-cut analysis (gate_target top) product mode
-    (from-named analysis.expanded top analysis.settings.limit_order product (numbers_by analysis.expanded top product) named
+    (from-named analysis.expanded top analysis.settings.limit_order product
+    (numbers_by analysis.expanded top product) named
     (made-minimal analysis.expanded top (numbers_by (quotient_of analysis.expanded top) top whole) puts
     (numbers_by analysis.expanded top product) sound (together-made analysis top whole puts product mode together))
     (omega arith))
@@ -141,10 +145,12 @@ product-together analysis top product mode sound is =
       record {
         of_quotient = from-cut (quotient_analysis analysis top) (gate_target top)
             (named_by (quotient_of analysis.expanded top) top made.0) mode
-            (from-named (quotient_of analysis.expanded top) top limit (named_by (quotient_of analysis.expanded top) top made.0)
+            (from-named (quotient_of analysis.expanded top) top limit
+            (named_by (quotient_of analysis.expanded top) top made.0)
             made.0 quotient made.1.minimal (omega arith));
         of_modules = λ place gate at put. of-module set made.0 made.1 (omega arith) place gate at
-            (sym (named-has (quotient_of analysis.expanded top) top (named_by (quotient_of analysis.expanded top) top made.0) made.0 quotient
+            (sym (named-has (quotient_of analysis.expanded top) top
+            (named_by (quotient_of analysis.expanded top) top made.0) made.0 quotient
             (length analysis.expanded.events + place)) ∙ put);
         occurring = occurring-named analysis.expanded top product set found.0;
         events = λ event. named-has analysis.expanded top product set found.0 event
@@ -164,13 +170,18 @@ product-together analysis top product mode sound is =
         let numbers : List ℕ = put_numbers analysis.expanded top (parts_put analysis.expanded top set) place in
         let part : List ℕ = part_of (number_of analysis.expanded top) (length analysis.expanded.events + place) set in
         let fewer : length part ≤ length set =
-        part-le part set (kept-part (λ event. number_of analysis.expanded top event == (length analysis.expanded.events + place)) set) in
+        part-le part set (kept-part (λ event. number_of analysis.expanded top event ==
+        (length analysis.expanded.events + place)) set) in
         let equal : length part ≡ length numbers =
-        ap length (made-part analysis.expanded top of (parts_put analysis.expanded top set) set sound made place item.0 put) in
+        ap length (made-part analysis.expanded top of
+        (parts_put analysis.expanded top set) set sound made place item.0 put) in
         subst (λ g. IsProductOf analysis (gate_target g) (parts_put analysis.expanded top set place)) item.1
-        (from-cut analysis (gate_target (at_place (outer_modules analysis.expanded top) place)) (parts_put analysis.expanded top set place) mode
-        (from-named analysis.expanded (at_place (outer_modules analysis.expanded top) place) analysis.settings.limit_order
-        (parts_put analysis.expanded top set place) numbers (made.named place item.0 put) (made.parts place item.0 put) (omega arith)))
+        (from-cut analysis (gate_target (at_place (outer_modules analysis.expanded top) place))
+        (parts_put analysis.expanded top set place) mode
+        (from-named analysis.expanded (at_place (outer_modules analysis.expanded top) place)
+        analysis.settings.limit_order
+        (parts_put analysis.expanded top set place) numbers (made.named place item.0 put) (made.parts place item.0 put)
+        (omega arith)))
 
 -- a product tells the product of the quotient from which it comes
 pub whole-one : (analysis : Analysis) (top : ℕ) (one other : List ℕ) (puts others : ℕ → List ℕ) (product : List ℕ)
@@ -179,10 +190,13 @@ pub whole-one : (analysis : Analysis) (top : ℕ) (one other : List ℕ) (puts o
 whole-one analysis top one other puts others product mode sound left right =
     let here = together-made analysis top one puts product mode left in
     let there = together-made analysis top other others product mode right in
-    let same : numbers_by (quotient_of analysis.expanded top) top one ≡ numbers_by (quotient_of analysis.expanded top) top other =
-    modules-same (number_of analysis.expanded top) (truth_of analysis.expanded top) _ _ (numbers_by analysis.expanded top product)
+    let same : numbers_by (quotient_of analysis.expanded top) top one ≡ numbers_by
+    (quotient_of analysis.expanded top) top other =
+    modules-same (number_of analysis.expanded top) (truth_of analysis.expanded top) _ _
+    (numbers_by analysis.expanded top product)
     (modules-false analysis.expanded top) here.minimal.ascending there.minimal.ascending
-    (made-substitution analysis.expanded top _ puts _ sound here) (made-substitution analysis.expanded top _ others _ sound there) in
+    (made-substitution analysis.expanded top _ puts _ sound here)
+    (made-substitution analysis.expanded top _ others _ sound there) in
     named-one (quotient_of analysis.expanded top) top one other (numbers_by (quotient_of analysis.expanded top) top one)
     (named-from (quotient_of analysis.expanded top) top analysis.settings.limit_order one
     (to-cut (quotient_analysis analysis top) (gate_target top) one mode left.of_quotient)).0
@@ -202,14 +216,17 @@ puts-one analysis top whole puts others product mode sound left right place gate
     let there = together-made analysis top whole others product mode right in
     let quotient = named-from (quotient_of analysis.expanded top) top analysis.settings.limit_order whole
     (to-cut (quotient_analysis analysis top) (gate_target top) whole mode left.of_quotient) in
-    let occurring : occurs (numbers_by (quotient_of analysis.expanded top) top whole) (length analysis.expanded.events + place) ≡ true =
-    sym (named-has (quotient_of analysis.expanded top) top whole _ quotient.0 (length analysis.expanded.events + place)) ∙ put in
+    let occurring : occurs (numbers_by (quotient_of analysis.expanded top) top whole)
+    (length analysis.expanded.events + place) ≡ true =
+    sym (named-has (quotient_of analysis.expanded top) top whole _ quotient.0
+    (length analysis.expanded.events + place)) ∙ put in
     let same : put_numbers analysis.expanded top puts place ≡ put_numbers analysis.expanded top others place =
     sym (made-part analysis.expanded top _ puts _ sound here place item.0 occurring)
     ∙ made-part analysis.expanded top _ others _ sound there place item.0 occurring in
     named-one analysis.expanded (at_place (outer_modules analysis.expanded top) place) (puts place) (others place)
     (put_numbers analysis.expanded top puts place) (here.named place item.0 occurring)
-    (subst (λ numbers. IsNamed analysis.expanded (at_place (outer_modules analysis.expanded top) place) (others place) numbers)
+    (subst (λ numbers. IsNamed analysis.expanded (at_place (outer_modules analysis.expanded top) place)
+    (others place) numbers)
     (sym same) (there.named place item.0 occurring))
 
 -- what the laws ask of a model with its events, in the words of the proofs

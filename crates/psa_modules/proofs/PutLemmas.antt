@@ -33,16 +33,18 @@ use Rattle.psa_modules.proofs.ApartLemmas.{outer-is, inside-step, or-false, not-
 use Rattle.psa_modules.proofs.QuotientLemmas.{gates-at, among-none, among-some, places-below, events-old, events-added}
 use Rattle.psa_modules.proofs.QuotientTruth.{IsSound, IsFree, number_of, truth_of, number-out, number-inside, number-cases, truth-in, truth-before, none-true, truth-whole}
 use Rattle.psa_modules.proofs.RenamingLemmas.{at_place, at_place-occurs}
-use Rattle.psa_modules.proofs.UnfoldingLemmas.{step_into, parts-within, occurs-part, own-place, visits-cases}
+use Rattle.psa_modules.proofs.UnfoldingLemmas.{step_into, parts-within, occurs-part, own-place, place-event, visits-cases}
 use Rattle.psa_modules.proofs.NamingLemmas.{IsNamed, events_of_gate, has-firsts, gate-looks, gate-below, named_by, named-by, named-has, numbers_by, numbers-same}
 
 -- ---- the events of the quotient
 
--- the event is outside all outer modules
+-- the event is one of the top event's, outside all outer modules
 abbrev pub IsOutside : Expanded → ℕ → ℕ → Type 0
 IsOutside expanded top event =
     (event < length expanded.events)
-    × ((gate : ℕ) → occurs (outer_modules expanded top) gate ≡ true → occurs (events_inside expanded gate) event ≡ false)
+    × ((gate : ℕ) → occurs (outer_modules expanded top) gate ≡ true → occurs (events_inside expanded gate) event
+    ≡ false)
+    × Has (events_inside expanded top) event
 
 -- the event is added for the module at a place
 abbrev pub IsAdded : Expanded → ℕ → ℕ → Type 0
@@ -87,10 +89,12 @@ pub visits-free : (n : ℕ) (expanded : Expanded) (top : ℕ) (place : Occurrenc
 unfolding visits within
 visits-free zero expanded top place event sound has free enough met = absurd met
 visits-free (suc n) expanded top place event sound has free enough met =
-    elim (visits-cases (quotient_of expanded top) (λ f. visits n (quotient_of expanded top) f) (out-Formula place.one) event met) [
+    elim (visits-cases (quotient_of expanded top) (λ f. visits n (quotient_of expanded top) f)
+    (out-Formula place.one) event met) [
       | inl at ↦ inl (layer-out (out-Formula place.one) refl enough at)
       | inr part ↦ layer-part (λ h inside clear k. visits-free n expanded top (step_into place h) event sound
-          (occurs-part (suc MAX_DEPTH) expanded.model (variant.Gate (record { 0 = top })) place h sound.enough has inside)
+          (occurs-part (suc MAX_DEPTH) expanded.model
+          (variant.Gate (record { 0 = top })) place h sound.enough has inside)
           (λ gate among. inside-step gate place h
           ∙ or-false (is_inside gate place) (is_gate gate place.one) (free gate among) (clear gate among))
           (parts-within expanded.model (λ g. within n expanded.model g) (out-Formula place.one) enough h inside) k)
@@ -107,15 +111,19 @@ visits-free (suc n) expanded top place event sound has free enough met =
     layer-out (Formula-F.Basic id) is deep at =
         let there : Has (events_of expanded id.0) event =
         subst (λ xs. Has xs event) (events-old (outer_modules expanded top) expanded id.0 (stands id.0 deep)) at in
-        let less : event < 0 + length expanded.events = places-below (covers expanded.model id.0) 0 expanded.events event there in (
+        let less : event < 0 + length expanded.events = places-below
+        (covers expanded.model id.0) 0 expanded.events event there in (
           omega arith,
           λ gate among.
               elim (cases_Bool (occurs (events_inside expanded gate) event)) [
-                | inl p ↦ absurd (false≢true (sym (free gate among) ∙ (outer-is expanded top gate among).conditions.keeps place event has
+                | inl p ↦ absurd (false≢true (sym (free gate among) ∙
+                    (outer-is expanded top gate among).conditions.keeps place event has
                     (subst (λ layer. Has (events_at_layer expanded layer) event) (sym is) there)
                     (occurs-has (events_inside expanded gate) event p)))
                 | inr p ↦ p
               ],
+          place-event (suc MAX_DEPTH) expanded (variant.Gate (record { 0 = top })) place event has
+              (subst (λ layer. Has (events_at_layer expanded layer) event) (sym is) there),
         )
     layer-out (Formula-F.House id) is deep at = absurd at
     layer-out (Formula-F.Constant b) is deep at = absurd at
@@ -149,20 +157,23 @@ visits-free (suc n) expanded top place event sound has free enough met =
           | inr q ↦ let nope : false ≡ true = rw q.0 at k in absurd (false≢true nope)
         ]
 
-    layer-part : IsMetDeeper n expanded top place event → (layer : Formula-F Formula) → out-Formula place.one ≡ layer → (h : Formula)
+    layer-part : IsMetDeeper n expanded top place event → (layer : Formula-F Formula) → out-Formula place.one ≡ layer
+        → (h : Formula)
         → Has (parts_of (quotient_of expanded top).model layer) h → Has (visits n (quotient_of expanded top) h) event
         → IsOutside expanded top event ⊎ IsAdded expanded top event
     layer-part deeper (Formula-F.Gate id) is h part k =
         let zeroth : 0 + id.0 ≡ id.0 = omega arith in
         let there = subst (λ found. Has (at_gate [] (λ f. f ∷ []) found) h)
         (gates-at (length expanded.model.basics) (outer_modules expanded top) 0 expanded.model.gates id.0
-        ∙ ap (λ p. option_map (λ gate. with_event gate (place_among (length expanded.model.basics) (outer_modules expanded top) p))
+        ∙ ap (λ p. option_map (λ gate. with_event gate
+        (place_among (length expanded.model.basics) (outer_modules expanded top) p))
         (slice_get expanded.model.gates id.0)) zeroth) part in
         elim (gate-part expanded top id (slice_get expanded.model.gates id.0) h there) [
           | inl m ↦ inr (added m.0 h m.1 m.2 k)
           | inr m ↦ deeper h (subst (λ layer. Has (parts_of expanded.model layer) h) (sym is) m.1)
               (λ gate among. elim (cases_Bool (is_gate gate place.one)) [
-                | inl p ↦ absurd (false≢true (sym m.0 ∙ (ap (occurs (outer_modules expanded top)) (same-gate id is gate p) ∙ among)))
+                | inl p ↦ absurd (false≢true (sym m.0 ∙
+                    (ap (occurs (outer_modules expanded top)) (same-gate id is gate p) ∙ among)))
                 | inr p ↦ p
               ]) k
         ]
@@ -178,18 +189,25 @@ pub events-free : (expanded : Expanded) (top event : ℕ) → IsSound expanded t
     → occurs (events_of_gate (quotient_of expanded top) top) event ≡ true
     → IsOutside expanded top event ⊎ IsAdded expanded top event
 events-free expanded top event sound h =
-    visits-free (suc MAX_DEPTH) expanded top (record { around = []; one = variant.Gate (record { 0 = top }) }) event sound
+    visits-free (suc MAX_DEPTH) expanded top (record {
+      around = [];
+      one = variant.Gate
+          (record { 0 = top });
+    }) event sound
     (own-place (suc MAX_DEPTH) expanded.model (variant.Gate (record { 0 = top })) sound.enough) (λ gate among. refl)
     sound.enough (has-firsts (target_visits (quotient_of expanded top) (gate_target top)) event h)
 
 -- so are those of its minimal cut sets
 pub minimal-free : (expanded : Expanded) (top : ℕ) (of : List ℕ) → IsSound expanded top
-    → IsMinimalCutSet (target_truth (quotient_of expanded top) (gate_target top)) of → (event : ℕ) → occurs of event ≡ true
+    → IsMinimalCutSet (target_truth (quotient_of expanded top) (gate_target top)) of → (event : ℕ) → occurs of event
+    ≡ true
     → IsOutside expanded top event ⊎ IsAdded expanded top event
 minimal-free expanded top of sound minimal event h =
     events-free expanded top event sound
-    (minimal-inside (target_truth (quotient_of expanded top) (gate_target top)) (occurs (events_of_gate (quotient_of expanded top) top)) of
-    (λ s. gate-looks (quotient_of expanded top) top s (λ e. occurs (events_of_gate (quotient_of expanded top) top) e && s e)
+    (minimal-inside (target_truth (quotient_of expanded top) (gate_target top))
+    (occurs (events_of_gate (quotient_of expanded top) top)) of
+    (λ s. gate-looks (quotient_of expanded top) top s
+    (λ e. occurs (events_of_gate (quotient_of expanded top) top) e && s e)
     (λ e k. rw k refl)) minimal event h)
 
 -- ---- what is put for some modules
@@ -273,7 +291,8 @@ put-number : (expanded : Expanded) (top : ℕ) (of : List ℕ) (puts : ℕ → L
 put-number expanded top of puts set sound made i event less put h =
     let gate : ℕ = at_place (outer_modules expanded top) i in
     let inside : occurs (events_of_gate expanded gate) event ≡ true =
-    minimal-inside (target_truth expanded (gate_target gate)) (occurs (events_of_gate expanded gate)) (put_numbers expanded top puts i)
+    minimal-inside (target_truth expanded (gate_target gate)) (occurs (events_of_gate expanded gate))
+    (put_numbers expanded top puts i)
     (λ s. gate-looks expanded gate s (λ e. occurs (events_of_gate expanded gate) e && s e) (λ e k. rw k refl))
     (made.parts i less put) event h in
     number-inside expanded top i event sound less (has-firsts (target_visits expanded (gate_target gate)) event inside)
@@ -283,7 +302,8 @@ made-cases : (expanded : Expanded) (top : ℕ) (of : List ℕ) (puts : ℕ → L
     → IsMade expanded top of puts set → (event : ℕ) → occurs set event ≡ true
     → ((number_of expanded top event ≡ event) × (event < length expanded.events) × (occurs of event ≡ true))
     ⊎ ((i : ℕ) × (i < length (outer_modules expanded top)) × (occurs of (length expanded.events + i) ≡ true)
-    × (occurs (put_numbers expanded top puts i) event ≡ true) × (number_of expanded top event ≡ length expanded.events + i))
+    × (occurs (put_numbers expanded top puts i) event ≡ true)
+    × (number_of expanded top event ≡ length expanded.events + i))
 made-cases expanded top of puts set sound made event h =
     elim (or_cases (nat_lt event (length expanded.events) && occurs of event)
     (has_put_event expanded (λ i. occurs of (length expanded.events + i)) puts 0 (outer_modules expanded top) event)
@@ -292,19 +312,32 @@ made-cases expanded top of puts set sound made event h =
           let parts = and_parts (nat_lt event (length expanded.events)) (occurs of event) p in
           let less : event < length expanded.events = below event parts.0 in
           elim (minimal-free expanded top of sound made.minimal event parts.1) [
-            | inl out ↦ inl (number-out expanded (length expanded.events) (outer_modules expanded top) event out.1, less, parts.1)
+            | inl out ↦ inl (
+              number-out expanded (length expanded.events)
+                  (outer_modules expanded top) event out.1,
+              less,
+              parts.1,
+            )
             | inr added ↦ let same : event ≡ length expanded.events + added.0 = added.2 in absurd (omega arith)
           ]
       | inr p ↦
-          let found = put-from expanded (λ i. occurs of (length expanded.events + i)) puts 0 (outer_modules expanded top) event p in
+          let found = put-from expanded (λ i. occurs of (length expanded.events + i)) puts 0
+          (outer_modules expanded top) event p in
           let zeroth : 0 + found.0 ≡ found.0 = omega arith in
           let put : occurs of (length expanded.events + found.0) ≡ true =
           ap (λ n. occurs of (length expanded.events + n)) (sym zeroth) ∙ found.2 in
           let there : occurs (put_numbers expanded top puts found.0) event ≡ true =
           sym (named-has expanded (at_place (outer_modules expanded top) found.0) (puts found.0)
           (put_numbers expanded top puts found.0) (made.named found.0 found.1 put) event)
-          ∙ (ap (λ n. has_event expanded (gate_target (at_place (outer_modules expanded top) found.0)) (puts n) event) (sym zeroth) ∙ found.3) in
-          inr (found.0, found.1, put, there, put-number expanded top of puts set sound made found.0 event found.1 put there)
+          ∙ (ap (λ n. has_event expanded (gate_target (at_place (outer_modules expanded top) found.0)) (puts n) event)
+          (sym zeroth) ∙ found.3) in
+          inr (
+            found.0,
+            found.1,
+            put,
+            there,
+            put-number expanded top of puts set sound made found.0 event found.1 put there,
+          )
     ]
   where
     below : (e : ℕ) → nat_lt e (length expanded.events) ≡ true → e < length expanded.events
@@ -326,7 +359,8 @@ made-part expanded top of puts set sound made i less put =
         → occurs (put_numbers expanded top puts i) event ≡ true
     from event h =
         let kept = occurs-kept (λ e. number_of expanded top e == (length expanded.events + i)) set event h in
-        let number : number_of expanded top event ≡ length expanded.events + i = is-equal (number_of expanded top event) (length expanded.events + i) kept.0 in
+        let number : number_of expanded top event ≡ length expanded.events + i = is-equal
+        (number_of expanded top event) (length expanded.events + i) kept.0 in
         elim (made-cases expanded top of puts set sound made event kept.1) [
           | inl own ↦
               let same : number_of expanded top event ≡ event = own.0 in
@@ -347,7 +381,8 @@ made-part expanded top of puts set sound made i less put =
         → occurs (part_of (number_of expanded top) (length expanded.events + i) set) event ≡ true
     to event h =
         let zeroth : 0 + i ≡ i = omega arith in
-        let is_put : has_put_event expanded (λ j. occurs of (length expanded.events + j)) puts 0 (outer_modules expanded top) event ≡ true =
+        let is_put : has_put_event expanded (λ j. occurs of (length expanded.events + j)) puts 0
+        (outer_modules expanded top) event ≡ true =
         put-at expanded (λ j. occurs of (length expanded.events + j)) puts 0 (outer_modules expanded top) i event less
         (ap (λ n. occurs of (length expanded.events + n)) zeroth ∙ put)
         (ap (λ n. has_event expanded (gate_target (at_place (outer_modules expanded top) i)) (puts n) event) zeroth
@@ -363,13 +398,15 @@ made-part expanded top of puts set sound made i less put =
         or-true false = refl
 
 -- a set that is put together comes from the set of the quotient by substitution
-pub made-substitution : (expanded : Expanded) (top : ℕ) (of : List ℕ) (puts : ℕ → List ℕ) (set : List ℕ) → IsSound expanded top
+pub made-substitution : (expanded : Expanded) (top : ℕ) (of : List ℕ) (puts : ℕ → List ℕ) (set : List ℕ)
+    → IsSound expanded top
     → IsMade expanded top of puts set → IsSubstitution (number_of expanded top) (truth_of expanded top) of set
 made-substitution expanded top of puts set sound made = record {
   ascending = made.ascending;
   parts = λ m h. elim (minimal-free expanded top of sound made.minimal m h) [
     | inl out ↦ own m out h
-    | inr added ↦ subst (λ n. IsMinimalCutSet (truth_of expanded top n) (part_of (number_of expanded top) n set)) (sym added.2)
+    | inr added ↦ subst (λ n. IsMinimalCutSet (truth_of expanded top n) (part_of (number_of expanded top) n set))
+        (sym added.2)
         (of-module added.0 added.1 (ap (occurs of) (sym added.2) ∙ h))
   ];
   only = λ event h. elim (made-cases expanded top of puts set sound made event h) [
@@ -385,7 +422,8 @@ made-substitution expanded top of puts set sound made = record {
         subst (λ xs. IsMinimalCutSet (truth_of expanded top (length expanded.events + i)) xs)
         (sym (made-part expanded top of puts set sound made i less put))
         (subst (λ f. IsMinimalCutSet f (put_numbers expanded top puts i))
-        (λ j s. sym (truth-in expanded (length expanded.events) (outer_modules expanded top) i s less) j) (made.parts i less put))
+        (λ j s. sym (truth-in expanded (length expanded.events) (outer_modules expanded top) i s less) j)
+        (made.parts i less put))
 
     own-part : (m : ℕ) → IsOutside expanded top m → occurs of m ≡ true → part_of (number_of expanded top) m set ≡ m ∷ []
     own-part m out h =
@@ -422,7 +460,8 @@ made-substitution expanded top of puts set sound made = record {
     own m out h =
         subst (λ xs. IsMinimalCutSet (truth_of expanded top m) xs) (sym (own-part m out h))
         (subst (λ f. IsMinimalCutSet f (m ∷ []))
-        (λ j s. sym (truth-before expanded (length expanded.events) (outer_modules expanded top) m s out.0) j) (lone-minimal m))
+        (λ j s. sym (truth-before expanded (length expanded.events) (outer_modules expanded top) m s out.0) j)
+        (lone-minimal m))
 
 -- no module is true where no event occurs
 pub modules-false : (expanded : Expanded) (top : ℕ) → AreFalseAtNone (truth_of expanded top)
@@ -438,11 +477,13 @@ pub truths-same : (expanded : Expanded) (top : ℕ) → IsSound expanded top
 truths-same expanded top sound = λ i s. truth-whole expanded top s sound i
 
 -- a set that is put together is a minimal cut set
-pub made-minimal : (expanded : Expanded) (top : ℕ) (of : List ℕ) (puts : ℕ → List ℕ) (set : List ℕ) → IsSound expanded top
+pub made-minimal : (expanded : Expanded) (top : ℕ) (of : List ℕ) (puts : ℕ → List ℕ) (set : List ℕ)
+    → IsSound expanded top
     → IsMade expanded top of puts set → IsMinimalCutSet (target_truth expanded (gate_target top)) set
 made-minimal expanded top of puts set sound made =
     subst (λ f. IsMinimalCutSet f set) (sym (truths-same expanded top sound))
-    (gives (number_of expanded top) (truth_of expanded top) (target_truth (quotient_of expanded top) (gate_target top)) set
+    (gives (number_of expanded top) (truth_of expanded top)
+    (target_truth (quotient_of expanded top) (gate_target top)) set
     (modules-false expanded top) of made.minimal (made-substitution expanded top of puts set sound made))
 
 -- what is put for each module: the part of the set
@@ -485,7 +526,8 @@ cut-event : (expanded : Expanded) (top : ℕ) (of set : List ℕ) → IsSound ex
 cut-event expanded top of set sound minimal sub event h =
     let inside : occurs (events_of_gate expanded top) event ≡ true =
     minimal-inside (target_truth expanded (gate_target top)) (occurs (events_of_gate expanded top)) set
-    (λ s. gate-looks expanded top s (λ e. occurs (events_of_gate expanded top) e && s e) (λ e k. rw k refl)) minimal event h in
+    (λ s. gate-looks expanded top s (λ e. occurs (events_of_gate expanded top) e && s e)
+    (λ e k. rw k refl)) minimal event h in
     let less : event < length expanded.events = gate-below expanded top event inside in
     let seen_there : occurs of (number_of expanded top event) ≡ true = sub.only event h in
     elim (number-cases expanded (length expanded.events) (outer_modules expanded top) event) [
@@ -500,7 +542,8 @@ cut-event expanded top of set sound minimal sub event h =
           (put-at expanded (λ i. occurs of (length expanded.events + i)) (parts_put expanded top set) 0
           (outer_modules expanded top) one.0 event one.1
           (ap (λ n. occurs of (length expanded.events + n)) zeroth ∙ put)
-          (ap (λ n. has_event expanded (gate_target (at_place (outer_modules expanded top) one.0)) (parts_put expanded top set n) event) zeroth
+          (ap (λ n. has_event expanded (gate_target (at_place (outer_modules expanded top) one.0))
+          (parts_put expanded top set n) event) zeroth
           ∙ (part-has expanded top of set sub one.0 one.1 put event ∙ there)))
     ]
   where
@@ -535,7 +578,8 @@ event-cut expanded top of set sub event h =
           ap (λ n. occurs of (length expanded.events + n)) (sym zeroth) ∙ found.2 in
           let there : occurs (part_of (number_of expanded top) (length expanded.events + found.0) set) event ≡ true =
           sym (part-has expanded top of set sub found.0 found.1 put event)
-          ∙ (ap (λ n. has_event expanded (gate_target (at_place (outer_modules expanded top) found.0)) (parts_put expanded top set n) event) (sym zeroth)
+          ∙ (ap (λ n. has_event expanded (gate_target (at_place (outer_modules expanded top) found.0))
+          (parts_put expanded top set n) event) (sym zeroth)
           ∙ found.3) in
           (occurs-kept (λ e. number_of expanded top e == (length expanded.events + found.0)) set event there).1
     ]
@@ -555,12 +599,16 @@ cut-made expanded top set sound minimal =
       record {
         ascending = minimal.ascending;
         minimal = found.1;
-        named = λ i less put. subst (λ numbers. IsNamed expanded (at_place (outer_modules expanded top) i) (parts_put expanded top set i) numbers)
+        named = λ i less put. subst (λ numbers. IsNamed expanded (at_place (outer_modules expanded top) i)
+            (parts_put expanded top set i) numbers)
             (sym (same found.0 found.2 i less put))
-            (named-by expanded (at_place (outer_modules expanded top) i) _ (part-minimal expanded top found.0 set found.2 i less put));
-        parts = λ i less put. subst (λ numbers. IsMinimalCutSet (target_truth expanded (gate_target (at_place (outer_modules expanded top) i))) numbers)
+            (named-by expanded (at_place (outer_modules expanded top) i) _
+            (part-minimal expanded top found.0 set found.2 i less put));
+        parts = λ i less put. subst (λ numbers. IsMinimalCutSet
+            (target_truth expanded (gate_target (at_place (outer_modules expanded top) i))) numbers)
             (sym (same found.0 found.2 i less put)) (part-minimal expanded top found.0 set found.2 i less put);
-        events = λ event. bits-same (occurs set event) _ (cut-event expanded top found.0 set sound minimal found.2 event)
+        events = λ event. bits-same (occurs set event) _
+            (cut-event expanded top found.0 set sound minimal found.2 event)
             (event-cut expanded top found.0 set found.2 event);
       },
       modules-le (number_of expanded top) (truth_of expanded top) found.0 set (modules-false expanded top)
@@ -573,4 +621,5 @@ cut-made expanded top set sound minimal =
         ≡ part_of (number_of expanded top) (length expanded.events + i) set
     same of sub i less put =
         numbers-same expanded (at_place (outer_modules expanded top) i) (parts_put expanded top set i) _
-        (named-by expanded (at_place (outer_modules expanded top) i) _ (part-minimal expanded top of set sub i less put))
+        (named-by expanded (at_place (outer_modules expanded top) i) _
+        (part-minimal expanded top of set sub i less put))

@@ -64,7 +64,8 @@ places-append test from [] ys =
     let same : from ≡ from + 0 = omega arith in ap (λ p. places_from (λ place x. test x) p ys) same
 places-append test from (x ∷ xs) ys =
     let same : (from + 1) + length xs ≡ from + suc (length xs) = omega arith in
-    let rest = places-append test (from + 1) xs ys ∙ ap (λ p. places_from (λ place x. test x) (from + 1) xs ++ places_from (λ place x. test x) p ys) same in
+    let rest = places-append test (from + 1) xs ys ∙ ap
+    (λ p. places_from (λ place x. test x) (from + 1) xs ++ places_from (λ place x. test x) p ys) same in
     elim (cases_Bool (test x)) [
       | inl p ↦ rw p (ap (λ ps. from ∷ ps) rest)
       | inr p ↦ rw p rest
@@ -74,7 +75,8 @@ places-append test from (x ∷ xs) ys =
 places-none : {A : Type 0} (test : A → Bool) (from : ℕ) (xs : List A) → ((x : A) → Has xs x → test x ≡ false)
     → places_from (λ place x. test x) from xs ≡ []
 places-none test from [] nope = refl
-places-none test from (x ∷ xs) nope = rw (nope x (inl refl)) (places-none test (from + 1) xs (λ y has. nope y (inr has)))
+places-none test from (x ∷ xs) nope = rw (nope x (inl refl))
+    (places-none test (from + 1) xs (λ y has. nope y (inr has)))
 
 -- the places that pass stand in the list
 pub places-below : {A : Type 0} (test : A → Bool) (from : ℕ) (xs : List A) (place : ℕ)
@@ -85,7 +87,8 @@ places-below test from (x ∷ xs) place has = elim (cases_Bool (test x)) [
     | inl e ↦ let same : from ≡ place = e in omega arith
     | inr k ↦ let less : place < (from + 1) + length xs = places-below test (from + 1) xs place k in omega arith
   ]
-  | inr p ↦ let less : place < (from + 1) + length xs = places-below test (from + 1) xs place (rw p at has) in omega arith
+  | inr p ↦ let less : place < (from + 1) + length xs = places-below test (from + 1) xs place (rw p at has) in
+      omega arith
 ]
 
 -- no added event is that of a number before theirs
@@ -97,7 +100,8 @@ added-none model basic at from (gate ∷ modules) h =
 
 -- the added event of a number is at its place
 added-one : (model : Model) (at from : ℕ) (modules : List ℕ) (i : ℕ) → i < length modules
-    → places_from (λ place one. covers model (from + i) one) at (map event.Basic (added_ids from modules)) ≡ (at + i) ∷ []
+    → places_from (λ place one. covers model (from + i) one) at (map event.Basic (added_ids from modules)) ≡ (at + i)
+    ∷ []
 added-one model at from [] i h = absurd (omega arith)
 added-one model at from (gate ∷ modules) zero h =
     let same : at ≡ at + 0 = omega arith in
@@ -107,7 +111,8 @@ added-one model at from (gate ∷ modules) (suc i) h =
     let same : suc from + i ≡ from + suc i = omega arith in
     let there : (at + 1) + i ≡ at + suc i = omega arith in
     rw (ne_eqb from (from + suc i) (λ e. omega arith))
-    (subst (λ b. places_from (λ place one. covers model b one) (at + 1) (map event.Basic (added_ids (suc from) modules)) ≡ (at + suc i) ∷ []) same
+    (subst (λ b. places_from (λ place one. covers model b one) (at + 1)
+    (map event.Basic (added_ids (suc from) modules)) ≡ (at + suc i) ∷ []) same
     (added-one model (at + 1) (suc from) modules i (omega arith) ∙ ap (λ p. p ∷ []) there))
 
 -- the events of a basic event in the quotient: those in the model, and the added ones
@@ -143,8 +148,10 @@ pub events-added : (modules : List ℕ) (expanded : Expanded) (i : ℕ) → IsOf
 events-added modules expanded i of h =
     let basic : ℕ = length expanded.model.basics + i in
     let none : events_of expanded basic ≡ [] =
-    places-none (covers expanded.model basic) 0 expanded.events (λ one has. elim (cases_Bool (covers expanded.model basic one)) [
-      | inl p ↦ let less : length expanded.model.basics + i < length expanded.model.basics = of basic one has p in absurd (omega arith)
+    places-none (covers expanded.model basic) 0 expanded.events
+    (λ one has. elim (cases_Bool (covers expanded.model basic one)) [
+      | inl p ↦ let less : length expanded.model.basics + i < length expanded.model.basics = of basic one has p in
+          absurd (omega arith)
       | inr p ↦ p
     ]) in
     events-split modules expanded basic

@@ -45,7 +45,8 @@ number_among expanded from (gate ∷ modules) event =
 abbrev pub truth_among : Expanded → ℕ → List ℕ → ℕ → (ℕ → Bool) → Bool
 truth_among expanded from [] number s = s number
 truth_among expanded from (gate ∷ modules) number s =
-    if number == from then target_truth expanded (gate_target gate) s else truth_among expanded (suc from) modules number s
+    if number == from then target_truth expanded (gate_target gate) s else truth_among expanded
+    (suc from) modules number s
 
 -- of a top event
 abbrev pub number_of : Expanded → ℕ → ℕ → ℕ
@@ -103,7 +104,8 @@ truth-in expanded from (gate ∷ modules) zero s h = rw (eq-eqb (from + 0) from 
 truth-in expanded from (gate ∷ modules) (suc i) s h =
     let same : from + suc i ≡ suc from + i = omega arith in
     rw (ne_eqb (from + suc i) from (λ e. omega arith))
-    (ap (λ n. truth_among expanded (suc from) modules n s) same ∙ truth-in expanded (suc from) modules i s (omega arith))
+    (ap (λ n. truth_among expanded (suc from) modules n s) same ∙ truth-in expanded (suc from) modules i s
+    (omega arith))
 
 -- a number before those of the modules is an event by itself
 pub truth-before : (expanded : Expanded) (from : ℕ) (modules : List ℕ) (number : ℕ) (s : ℕ → Bool) → number < from
@@ -141,7 +143,8 @@ place-one numbers i j h less fewer same =
     omega arith
 
 -- an event inside a module has the module's number
-pub number-inside : (expanded : Expanded) (top i event : ℕ) → IsSound expanded top → i < length (outer_modules expanded top)
+pub number-inside : (expanded : Expanded) (top i event : ℕ) → IsSound expanded top → i < length
+    (outer_modules expanded top)
     → Has (events_inside expanded (at_place (outer_modules expanded top) i)) event
     → number_of expanded top event ≡ length expanded.events + i
 number-inside expanded top i event sound h inside =
@@ -150,10 +153,13 @@ number-inside expanded top i event sound h inside =
     (λ j less. elim (cases_Bool (occurs (events_inside expanded (at_place (outer_modules expanded top) j)) event)) [
       | inl p ↦
           let fewer : j < length (outer_modules expanded top) = omega arith in
-          absurd (outer-apart expanded top (at_place (outer_modules expanded top) i) (at_place (outer_modules expanded top) j) event
+          absurd (outer-apart expanded top (at_place (outer_modules expanded top) i)
+          (at_place (outer_modules expanded top) j) event
           sound.enough
-          (outer-is expanded top (at_place (outer_modules expanded top) i) (at_place-occurs (outer_modules expanded top) i h))
-          (outer-is expanded top (at_place (outer_modules expanded top) j) (at_place-occurs (outer_modules expanded top) j fewer))
+          (outer-is expanded top (at_place (outer_modules expanded top) i)
+          (at_place-occurs (outer_modules expanded top) i h))
+          (outer-is expanded top (at_place (outer_modules expanded top) j)
+          (at_place-occurs (outer_modules expanded top) j fewer))
           (λ e. let same : i ≡ j = place-one (outer_modules expanded top) i j sound.different h fewer e in omega arith)
           inside (occurs-has (events_inside expanded (at_place (outer_modules expanded top) j)) event p))
       | inr p ↦ p
@@ -175,7 +181,8 @@ seen-module expanded top i s sound h =
 
 -- the quotient sees an event outside all modules where it occurs
 pub seen-event : (expanded : Expanded) (top event : ℕ) (s : ℕ → Bool) → event < length expanded.events
-    → ((gate : ℕ) → occurs (outer_modules expanded top) gate ≡ true → occurs (events_inside expanded gate) event ≡ false)
+    → ((gate : ℕ) → occurs (outer_modules expanded top) gate ≡ true → occurs (events_inside expanded gate) event
+    ≡ false)
     → seen (number_of expanded top) (truth_of expanded top) s event ≡ s event
 seen-event expanded top event s h out =
     truth-before expanded (length expanded.events) (outer_modules expanded top) event
@@ -214,7 +221,8 @@ gate-same : (n : ℕ) (expanded : Expanded) (top : ℕ) (s : ℕ → Bool) (id :
     → (occurs (outer_modules expanded top) id.0 ≡ false → (h : Formula) → Has (at_gate [] (λ f. f ∷ []) found) h
     → truth_there n expanded top s h ≡ truth_here n expanded s h)
     → at_gate false (λ g. truth_there n expanded top s g)
-    (option_map (λ gate. with_event gate (place_among (length expanded.model.basics) (outer_modules expanded top) id.0)) found)
+    (option_map (λ gate. with_event gate (place_among (length expanded.model.basics)
+    (outer_modules expanded top) id.0)) found)
     ≡ at_gate false (λ g. truth_here n expanded s g) found
 gate-same n expanded top s id sound few None is enough parts = refl
 gate-same n expanded top s id sound few (Some gate) is enough parts =
@@ -225,8 +233,10 @@ gate-same n expanded top s id sound few (Some gate) is enough parts =
           let basic : ℕ = length expanded.model.basics + among.0 in
           let seen_there : truth_there n expanded top s (variant.Basic (record { 0 = basic }))
           ≡ target_truth expanded (gate_target id.0) s =
-          truth-basic n (quotient_of expanded top) (house_states expanded.model) (seen_by expanded top s) (record { 0 = basic }) levels
-          ∙ (ap (list_any (seen_by expanded top s)) (events-added (outer_modules expanded top) expanded among.0 sound.basics among.1)
+          truth-basic n (quotient_of expanded top) (house_states expanded.model) (seen_by expanded top s)
+          (record { 0 = basic }) levels
+          ∙ (ap (list_any (seen_by expanded top s))
+          (events-added (outer_modules expanded top) expanded among.0 sound.basics among.1)
           ∙ (or-nothing (seen_by expanded top s (length expanded.events + among.0))
           ∙ (seen-module expanded top among.0 s sound among.1
           ∙ ap (λ g. target_truth expanded (gate_target g) s) among.2))) in
@@ -237,7 +247,8 @@ gate-same n expanded top s id sound few (Some gate) is enough parts =
           ∙ truth-of-gate n expanded (house_states expanded.model) s id gate is in
           rw among.3 (seen_there ∙ seen_here)
       | inr p ↦
-          rw (among-none (length expanded.model.basics) (outer_modules expanded top) id.0 p) (parts p gate.formula (inl refl))
+          rw (among-none (length expanded.model.basics) (outer_modules expanded top) id.0 p)
+          (parts p gate.formula (inl refl))
     ]
   where
     or-nothing : (b : Bool) → (b || false) ≡ b
@@ -251,13 +262,15 @@ layer-same : (n : ℕ) (expanded : Expanded) (top : ℕ) (s : ℕ → Bool) (pla
     → within_layer expanded.model (λ g. within n expanded.model g) layer ≡ true
     → (((gate : ℕ) → occurs (outer_modules expanded top) gate ≡ true → is_gate gate place.one ≡ false) → (h : Formula)
     → Has (parts_of expanded.model layer) h → truth_there n expanded top s h ≡ truth_here n expanded s h)
-    → truth_layer (quotient_of expanded top) (house_states expanded.model) (seen_by expanded top s) (λ g. truth_there n expanded top s g) layer
+    → truth_layer (quotient_of expanded top) (house_states expanded.model) (seen_by expanded top s)
+    (λ g. truth_there n expanded top s g) layer
     ≡ truth_layer expanded (house_states expanded.model) s (λ g. truth_here n expanded s g) layer
 layer-same n expanded top s place sound few has free (Formula-F.Gate id) is enough parts =
     let zeroth : 0 + id.0 ≡ id.0 = omega arith in
     ap (at_gate false (λ g. truth_there n expanded top s g))
     (gates-at (length expanded.model.basics) (outer_modules expanded top) 0 expanded.model.gates id.0
-    ∙ ap (λ p. option_map (λ gate. with_event gate (place_among (length expanded.model.basics) (outer_modules expanded top) p))
+    ∙ ap (λ p. option_map (λ gate. with_event gate
+    (place_among (length expanded.model.basics) (outer_modules expanded top) p))
     (slice_get expanded.model.gates id.0)) zeroth)
     ∙ gate-same n expanded top s id sound few (slice_get expanded.model.gates id.0) refl enough
     (λ nope. parts (λ gate among. elim (cases_Bool (is_gate gate place.one)) [
@@ -276,10 +289,12 @@ layer-same n expanded top s place sound few has free (Formula-F.Gate id) is enou
 layer-same n expanded top s place sound few has free (Formula-F.Basic id) is enough parts =
     ap (list_any (seen_by expanded top s)) (events-old (outer_modules expanded top) expanded id.0 (stands id.0 enough))
     ∙ same-any (seen_by expanded top s) s (events_of expanded id.0) (λ event at.
-    let zeroth : event < 0 + length expanded.events = places-below (covers expanded.model id.0) 0 expanded.events event at in
+    let zeroth : event < 0 + length expanded.events = places-below
+    (covers expanded.model id.0) 0 expanded.events event at in
     seen-event expanded top event s (omega arith) (λ gate among.
     elim (cases_Bool (occurs (events_inside expanded gate) event)) [
-      | inl p ↦ absurd (false≢true (sym (free gate among) ∙ (outer-is expanded top gate among).conditions.keeps place event has
+      | inl p ↦ absurd (false≢true (sym (free gate among) ∙
+          (outer-is expanded top gate among).conditions.keeps place event has
           (subst (λ layer. Has (events_at_layer expanded layer) event) (sym is) at)
           (occurs-has (events_inside expanded gate) event p)))
       | inr p ↦ p
@@ -289,7 +304,8 @@ layer-same n expanded top s place sound few has free (Formula-F.Basic id) is eno
     stands basic h = grind (arith, nat_tests)
 layer-same n expanded top s place sound few has free (Formula-F.House id) is enough parts = refl
 layer-same n expanded top s place sound few has free (Formula-F.Constant b) is enough parts = refl
-layer-same n expanded top s place sound few has free (Formula-F.Connective operator least most arguments) is enough parts =
+layer-same n expanded top s place sound few has free
+    (Formula-F.Connective operator least most arguments) is enough parts =
     ap (truth_of_connective operator least most)
     (same-map (λ g. truth_there n expanded top s g) (λ g. truth_here n expanded s g) arguments
     (parts (λ gate among. ap (λ layer. list_any (λ g. g == gate) (gates_at_layer layer)) is)))
@@ -313,7 +329,8 @@ place-same (suc n) expanded top s place sound few has free enough =
 -- the truth of the top event is that of the quotient at the modules that hold
 pub truth-whole : (expanded : Expanded) (top : ℕ) (s : ℕ → Bool) → IsSound expanded top
     → target_truth expanded (gate_target top) s
-    ≡ whole (number_of expanded top) (truth_of expanded top) (target_truth (quotient_of expanded top) (gate_target top)) s
+    ≡ whole (number_of expanded top) (truth_of expanded top)
+    (target_truth (quotient_of expanded top) (gate_target top)) s
 truth-whole expanded top s sound =
     sym (place-same (suc MAX_DEPTH) expanded top s
     (record { around = []; one = variant.Gate (record { 0 = top }) }) sound (omega arith)

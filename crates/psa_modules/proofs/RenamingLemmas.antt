@@ -45,7 +45,8 @@ place-from s from (one ∷ more) event h = elim (eqb_tells one event) [
 ]
 
 -- the event at a place is one of the list
-pub at_place-occurs : (events : List ℕ) (place : ℕ) → place < length events → occurs events (at_place events place) ≡ true
+pub at_place-occurs : (events : List ℕ) (place : ℕ) → place < length events → occurs events (at_place events place)
+    ≡ true
 at_place-occurs [] place h = absurd (omega arith)
 at_place-occurs (one ∷ more) zero h = rw (eqb-same one) refl
 at_place-occurs (one ∷ more) (suc place) h =
@@ -53,7 +54,7 @@ at_place-occurs (one ∷ more) (suc place) h =
     (inr (occurs-has more (at_place more place) (at_place-occurs more place (omega arith))))
 
 -- the test of an event in a list is that of its items
-any-occurs : (event : ℕ) (events : List ℕ) → list_any (λ y. y == event) events ≡ occurs events event
+pub any-occurs : (event : ℕ) (events : List ℕ) → list_any (λ y. y == event) events ≡ occurs events event
 any-occurs event [] = refl
 any-occurs event (one ∷ more) = rw (any-occurs event more) refl
 
@@ -119,7 +120,8 @@ pub renamed-at : (events places set : List ℕ) → are_different events ≡ tru
     → place < length events → occurs set (at_place events place) ≡ occurs places place
 renamed-at events places set h is place less =
     let same : 0 + place ≡ place = omega arith in
-    ap (λ t. t (at_place events place)) is.same ∙ (at_place-by (occurs places) 0 events place h less ∙ ap (occurs places) same)
+    ap (λ t. t (at_place events place)) is.same ∙
+    (at_place-by (occurs places) 0 events place h less ∙ ap (occurs places) same)
 
 -- the test of the places whose events pass a test
 abbrev pub placed : List ℕ → (ℕ → Bool) → ℕ → Bool
@@ -239,8 +241,10 @@ renamed-from events f places minimal =
       record {
         ascending = minimal.ascending;
         ascending_set = listed-ascending test bound;
-        stand = λ place k. below-length place (minimal-inside (over_places events f) (λ place. nat_lt place (length events))
-            places (λ s. ap f (tests-same (by_place s 0 events) (by_place (λ place. nat_lt place (length events) && s place) 0 events)
+        stand = λ place k. below-length place (minimal-inside (over_places events f)
+            (λ place. nat_lt place (length events))
+            places (λ s. ap f (tests-same (by_place s 0 events)
+            (by_place (λ place. nat_lt place (length events) && s place) 0 events)
             (λ event. by_place-agree s (λ place. nat_lt place (length events) && s place) 0 events event
             (λ place less.
             let same : 0 + place ≡ place = omega arith in

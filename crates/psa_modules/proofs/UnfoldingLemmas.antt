@@ -1,5 +1,5 @@
 -- What stands inside a place of an unfolding stands at a place too; and what truth and the events met rest on.
-use Rattle.std.proofs.Common.{◌≡◌, ◌⊎◌, ◌==◌, ℕ, zero, suc, Bool, true, false, List, [], ◌∷◌, ◌++◌, Option, Some, None, map, ◌&&◌, ◌||◌, refl, sym, ap, subst, ◌∙◌, inl, inr}
+use Rattle.std.proofs.Common.{◌≡◌, ◌⊎◌, ◌==◌, ℕ, zero, suc, Bool, true, false, List, [], ◌∷◌, ◌++◌, Option, Some, None, map, ◌≤◌, ◌&&◌, ◌||◌, refl, sym, ap, subst, ◌∙◌, inl, inr, arith}
 use Rattle.std.specs.List.{slice_get, flat_map, list_all, list_any}
 use Rattle.std.proofs.lemmas.Bool.{false≢true, and_parts, or_cases, cases_Bool}
 use Rattle.std.proofs.lemmas.List.Concat.{flat_map-cons}
@@ -17,12 +17,14 @@ use Rattle.psa_model.specs.Events.{events_of}
 use Rattle.psa_model.specs.Formulas.{truth_of_connective, has_arity}
 use Rattle.psa_model.specs.Ranks.{visits, visits_layer}
 use Rattle.psa_model.specs.Truth.{at_gate, truth, truth_layer, within, within_layer}
-use Rattle.psa_modules.specs.Occurrences.{Occurrence, occurrences, parts_of, put_inside, events_at_layer}
+use Rattle.psa_model.proofs.Levels.{visits-more, within-above}
+use Rattle.psa_modules.specs.Occurrences.{Occurrence, occurrences, parts_of, put_inside, events_at, events_at_layer}
 
 -- ---- lists
 
 -- each item passes
-pub all-has : {A : Type 0} (test : A → Bool) (xs : List A) → list_all test xs ≡ true → (x : A) → Has xs x → test x ≡ true
+pub all-has : {A : Type 0} (test : A → Bool) (xs : List A) → list_all test xs ≡ true → (x : A) → Has xs x → test x
+    ≡ true
 all-has test [] h x has = absurd has
 all-has test (y ∷ ys) h x has = elim has [
   | inl e ↦ ap test (sym e) ∙ (and_parts (test y) (list_all test ys) h).0
@@ -30,7 +32,8 @@ all-has test (y ∷ ys) h x has = elim has [
 ]
 
 -- an item passes
-pub any-has : {A : Type 0} (test : A → Bool) (xs : List A) → list_any test xs ≡ true → (x : A) × Has xs x × (test x ≡ true)
+pub any-has : {A : Type 0} (test : A → Bool) (xs : List A) → list_any test xs ≡ true → (x : A) × Has xs x
+    × (test x ≡ true)
 any-has test [] h = absurd (false≢true h)
 any-has test (y ∷ ys) h = elim (or_cases (test y) (list_any test ys) h) [
   | inl p ↦ (y, inl refl, p)
@@ -49,7 +52,8 @@ any-from test (y ∷ ys) x has h = elim (cases_Bool (test y)) [
 ]
 
 -- an item of a part's list is one of the whole
-pub has-flat : {A B : Type 0} (f : A → List B) (xs : List A) (x : A) (y : B) → Has xs x → Has (f x) y → Has (flat_map f xs) y
+pub has-flat : {A B : Type 0} (f : A → List B) (xs : List A) (x : A) (y : B) → Has xs x → Has (f x) y → Has
+    (flat_map f xs) y
 has-flat f [] x y has k = absurd has
 has-flat f (z ∷ zs) x y has k = rw flat_map-cons (elim has [
   | inl e ↦ has-append_left (f z) (flat_map f zs) y (subst (λ u. Has (f u) y) (sym e) k)
@@ -105,14 +109,16 @@ pub occurs-part : (n : ℕ) (model : Model) (f : Formula) (place : Occurrence) (
 unfolding occurrences within
 occurs-part zero model f place h enough has part = absurd (false≢true enough)
 occurs-part (suc n) model f place h enough has part = elim has [
-  | inl e ↦ subst (λ q. Has (parts_of model (out-Formula q.one)) h → Has (occurrences (suc n) model f) (step_into q h)) e
+  | inl e ↦ subst (λ q. Has (parts_of model (out-Formula q.one)) h → Has (occurrences (suc n) model f)
+      (step_into q h)) e
       (λ inside. inr (has-map (put_inside f) (flat_map (λ g. occurrences n model g) (parts_of model (out-Formula f)))
       (record { around = []; one = h })
       (has-flat (λ g. occurrences n model g) (parts_of model (out-Formula f)) h (record { around = []; one = h }) inside
       (own-place n model h (parts-within model (λ g. within n model g) (out-Formula f) enough h inside)))))
       part
   | inr m ↦
-      let found = has-map_from (put_inside f) (flat_map (λ g. occurrences n model g) (parts_of model (out-Formula f))) place m in
+      let found = has-map_from (put_inside f) (flat_map (λ g. occurrences n model g)
+      (parts_of model (out-Formula f))) place m in
       let inner = has-flat_from (λ g. occurrences n model g) (parts_of model (out-Formula f)) found.0 found.1 in
       let deeper : Has (occurrences n model inner.0) (step_into found.0 h) =
       occurs-part n model inner.0 found.0 h
@@ -121,7 +127,8 @@ occurs-part (suc n) model f place h enough has part = elim has [
       subst (λ q. Has (occurrences (suc n) model f) (step_into q h)) found.2
       (inr (has-map (put_inside f) (flat_map (λ g. occurrences n model g) (parts_of model (out-Formula f)))
       (step_into found.0 h)
-      (has-flat (λ g. occurrences n model g) (parts_of model (out-Formula f)) inner.0 (step_into found.0 h) inner.1 deeper)))
+      (has-flat (λ g. occurrences n model g) (parts_of model (out-Formula f)) inner.0
+      (step_into found.0 h) inner.1 deeper)))
 ]
 
 -- ---- the events met
@@ -176,7 +183,8 @@ pub truth_layer-same : (expanded : Expanded) (houses : List Bool) (s t : ℕ →
     (layer : Formula-F Formula) → ((event : ℕ) → Has (events_at_layer expanded layer) event → s event ≡ t event)
     → ((h : Formula) → Has (parts_of expanded.model layer) h → f h ≡ g h)
     → truth_layer expanded houses s f layer ≡ truth_layer expanded houses t g layer
-truth_layer-same expanded houses s t f g (Formula-F.Gate id) same parts = gate-same (slice_get expanded.model.gates id.0) parts
+truth_layer-same expanded houses s t f g (Formula-F.Gate id) same parts = gate-same
+    (slice_get expanded.model.gates id.0) parts
   where
     gate-same : (found : Option Gate) → ((h : Formula) → Has (at_gate [] (λ f. f ∷ []) found) h → f h ≡ g h)
         → at_gate false f found ≡ at_gate false g found
@@ -189,7 +197,7 @@ truth_layer-same expanded houses s t f g (Formula-F.Connective operator min max 
     ap (truth_of_connective operator min max) (same-map f g arguments parts)
 
 -- a formula's events are met in it
-events-visited : (expanded : Expanded) (v : Formula → List ℕ) (layer : Formula-F Formula) (event : ℕ)
+pub events-visited : (expanded : Expanded) (v : Formula → List ℕ) (layer : Formula-F Formula) (event : ℕ)
     → Has (events_at_layer expanded layer) event → Has (visits_layer expanded v layer) event
 events-visited expanded v (Formula-F.Gate id) event has = absurd has
 events-visited expanded v (Formula-F.Basic id) event has = has
@@ -209,3 +217,54 @@ truth-looks (suc n) expanded houses s t f same =
     (λ event has. same event (events-visited expanded (λ g. visits n expanded g) (out-Formula f) event has))
     (λ h part. truth-looks n expanded houses s t h (λ event has. same event
     (visits-part expanded (λ g. visits n expanded g) (out-Formula f) h event part has)))
+
+-- an event that stands at a place is met
+pub place-event : (n : ℕ) (expanded : Expanded) (f : Formula) (place : Occurrence) (event : ℕ)
+    → Has (occurrences n expanded.model f) place → Has (events_at expanded place.one) event
+    → Has (visits n expanded f) event
+unfolding occurrences visits
+place-event zero expanded f place event has at = absurd has
+place-event (suc n) expanded f place event has at = elim has [
+  | inl e ↦ events-visited expanded (λ g. visits n expanded g) (out-Formula f) event
+      (subst (λ q. Has (events_at expanded q.one) event) (sym e) at)
+  | inr m ↦
+      let found = has-map_from (put_inside f)
+      (flat_map (λ g. occurrences n expanded.model g) (parts_of expanded.model (out-Formula f))) place m in
+      let inner = has-flat_from (λ g. occurrences n expanded.model g) (parts_of expanded.model (out-Formula f))
+      found.0 found.1 in
+      visits-part expanded (λ g. visits n expanded g) (out-Formula f) inner.0 event inner.1
+      (place-event n expanded inner.0 found.0 event inner.2
+      (subst (λ q. Has (events_at expanded q.one) event) (sym found.2) at))
+]
+
+-- the events met, a level at a time
+visited-more : (levels : ℕ) (expanded : Expanded) (f : Formula) (event : ℕ)
+    → Has (visits_layer expanded (λ g. visits levels expanded g) (out-Formula f)) event
+    → Has (visits (suc levels) expanded f) event
+unfolding visits
+visited-more levels expanded f event has = has
+
+-- what is met in what stands at a place is met
+pub place-visits : (n levels : ℕ) (expanded : Expanded) (f : Formula) (place : Occurrence) (event : ℕ)
+    → within n expanded.model f ≡ true → n ≤ levels → Has (occurrences n expanded.model f) place
+    → Has (visits levels expanded place.one) event → Has (visits levels expanded f) event
+unfolding occurrences within
+place-visits zero levels expanded f place event enough few has met = absurd has
+place-visits (suc n) levels expanded f place event enough few has met = elim has [
+  | inl e ↦ subst (λ q. Has (visits levels expanded q.one) event) (sym e) met
+  | inr m ↦
+      let found = has-map_from (put_inside f)
+      (flat_map (λ g. occurrences n expanded.model g) (parts_of expanded.model (out-Formula f))) place m in
+      let inner = has-flat_from (λ g. occurrences n expanded.model g) (parts_of expanded.model (out-Formula f))
+      found.0 found.1 in
+      let deep : within n expanded.model inner.0 ≡ true =
+      parts-within expanded.model (λ g. within n expanded.model g) (out-Formula f) enough inner.0 inner.1 in
+      let there : Has (visits levels expanded inner.0) event =
+      place-visits n levels expanded inner.0 found.0 event deep (omega arith) inner.2
+      (subst (λ q. Has (visits levels expanded q.one) event) (sym found.2) met) in
+      let more : Has (visits (suc levels) expanded f) event =
+      visited-more levels expanded f event
+      (visits-part expanded (λ g. visits levels expanded g) (out-Formula f) inner.0 event inner.1 there) in
+      let all : within levels expanded.model f ≡ true = within-above (suc n) levels expanded.model f few enough in
+      subst (λ xs. Has xs event) (visits-more levels expanded f all) more
+]

@@ -6,3 +6,4 @@ pub mod Quotients
 pub mod ModuleText
 pub mod PutTogether
 pub mod ModuleExamples
+pub mod Ways

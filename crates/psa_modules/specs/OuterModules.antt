@@ -89,10 +89,12 @@ gates_by_visit model top = firsts (flat_map (λ place. gates_at place.one) (occu
 abbrev pub modules_of : Expanded → ℕ → List ℕ
 modules_of expanded top = filter (is_module expanded top) (gates_by_visit expanded.model top)
 
--- no occurrence of the gate is inside an occurrence of one of the modules
+-- no occurrence of the gate is inside an occurrence of another of these modules
 abbrev pub is_in_none : Model → List ℕ → ℕ → ℕ → Bool
 is_in_none model modules top gate =
-    list_all (λ place. not (is_gate gate place.one) || not (list_any (λ other. not (other == gate) && is_inside other place) modules))
+    list_all
+    (λ place. not (is_gate gate place.one)
+    || not (list_any (λ other. not (other == gate) && is_inside other place) modules))
     (occurrences_in model top)
 
 -- the outer modules of a top event in the order of their first visit: those in no other module

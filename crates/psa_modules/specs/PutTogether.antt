@@ -27,7 +27,8 @@ has_put_event expanded is_put puts place (gate ∷ modules) event =
 -- the added event of the module at the place occurs in a product of the quotient
 abbrev pub has_module : Analysis → ℕ → List ℕ → ℕ → Bool
 has_module analysis top whole place =
-    has_event (quotient_analysis analysis top).expanded (gate_target top) whole (length analysis.expanded.events + place)
+    has_event (quotient_analysis analysis top).expanded (gate_target top) whole
+    (length analysis.expanded.events + place)
 
 -- A list of literals of events that occur is a set of ranks of the target.
 pub record IsOccurring (expanded : Expanded) (target : Target) (product : List ℕ) : Type 0 where

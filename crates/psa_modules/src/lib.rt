@@ -13,5 +13,7 @@ pub use laws::{
     substitutions_are_longest, two_trains_fail,
 };
 pub use product_laws::{
-    each_choice_is_put_together, products_are_put_together, products_come_once,
+    each_choice_is_put_together, expansions_of_models, modules_stand_on_every_way,
+    products_are_put_together, products_come_once, quotients_are_resolved,
+    quotients_have_fewer_ranks,
 };
