@@ -5,8 +5,8 @@
     docs/meaning.py --check    says whether the page is as the definitions are; status 1 where it is old
     docs/meaning.py --list     prints the names alone, with file and line
 
-From the clauses of each top call, and of the traits that it takes, it follows each name through the `use` lines to the
-definition in specs/ (or the declaration in src/) and on from there, until nothing new is met. Names that the library
+From the clauses of each top call, and of the traits that it takes, it follows each name and each operator through the
+`use` lines to the definition in specs/ (or the declaration in src/) and on from there, until nothing new is met. Names that the library
 of the kit defines end the search. The first page of docs/meaning.md is docs/meaning_head.md.
 """
 import collections
@@ -44,7 +44,10 @@ GROUPS = [
     ("The rest", []),
 ]
 
-HEAD = re.compile(r"^(?:abbrev|unfoldable|definition)\s+(?:pub\s+)?(\S+)|^(?:pub\s+)?(?:record|data)\s+(\S+)")
+HEAD = re.compile(r"^(?:abbrev|unfoldable|definition)\s+(?:pub\s+)?(?!mutual$)(\S+)|^(?:pub\s+)?(?:record|data)\s+(\S+)")
+# Definitions that name each other stand in a block, each two places to the right.
+MUTUAL = re.compile(r"^(?:abbrev\s+)?mutual$")
+HEAD_IN_BLOCK = re.compile(r"^  pub\s+(?:(?:record|data)\s+)?(\S+)")
 WORD = re.compile(r"[A-Za-z_][A-Za-z0-9_'\-]*(?:\.[A-Za-z_][A-Za-z0-9_'\-]*)*")
 
 
@@ -79,24 +82,38 @@ class Spec:
         self.head = comment_of(lines, len(re.match(r"(?:--.*\n)*", text).group().split("\n")) - 1)
         self.names, self.aliases = uses_of(text)
         self.items, self.owners = {}, {}
-        starts = [(i, next(filter(None, HEAD.match(line).groups()))) for i, line in enumerate(lines) if HEAD.match(line)]
-        for (i, name), (end, _) in zip(starts, starts[1:] + [(len(lines), None)]):
-            while end > i + 1 and (not lines[end - 1].strip() or lines[end - 1].startswith("--")):
+        starts = starts_of(lines)
+        for (i, name, top), (end, *_) in zip(starts, starts[1:] + [(len(lines), None, None)]):
+            while end > i + 1 and (not lines[end - 1].strip() or lines[end - 1].lstrip().startswith("--")
+                                   or MUTUAL.match(lines[end - 1])):
                 end -= 1
             body = lines[i:end]
-            self.items[name] = Item(name, path, i + 1, comment_of(lines, i), body)
-            self.owners.setdefault(name, name)
-            if re.match(r"^(?:pub\s+)?(?:record|data)", lines[i]):
+            self.items[name] = Item(name, path, i + 1, comment_of(lines, i) or comment_of(lines, top), body)
+            if re.match(r"^\s*(?:pub\s+)?(?:record|data)", lines[i]):
                 for line in body[1:]:
                     field = re.match(r"^\s+(?:pub\s+)?([\w\-']+(?:\s+[\w\-']+)*)\s*:", line)
                     for word in field.group(1).split() if field else []:
                         self.owners.setdefault(word, name)
+        # (a definition may have the name of a record's field)
+        self.owners.update({name: name for name in self.items})
+
+
+def starts_of(lines):
+    """Where the definitions of a file begin: line, name, and the line above which a comment may stand too."""
+    starts, top = [], None
+    for i, line in enumerate(lines):
+        if line and not line[0].isspace():
+            top = i if MUTUAL.match(line) else None
+        head = HEAD.match(line) or (HEAD_IN_BLOCK.match(line) if top is not None else None)
+        if head:
+            starts.append((i, next(filter(None, head.groups())), i if top is None else top))
+    return starts
 
 
 def comment_of(lines, place):
     """The comment that stands directly above a line."""
     first = place
-    while first > 0 and lines[first - 1].startswith("--") and not lines[first - 1].startswith("-- ---"):
+    while first > 0 and lines[first - 1].lstrip().startswith("--") and not lines[first - 1].startswith("-- ---"):
         first -= 1
     return " ".join(line.lstrip("- ").strip() for line in lines[first:place]).strip()
 
@@ -183,6 +200,12 @@ def words_of(lines):
     return [word for line in lines for word in WORD.findall(line)]
 
 
+def operators_of(lines, names):
+    """Those of these names that are operators of which each sign stands in the lines: `◌>>=◌` where `>>=` does."""
+    text = "\n".join(lines)
+    return [name for name in names if "◌" in name and all(sign in text for sign in name.split("◌"))]
+
+
 def follow(seeds):
     """All items that are met from these words; each with the words' own file."""
     met, left = {}, list(seeds)
@@ -196,7 +219,7 @@ def follow(seeds):
             texts = [item.ghost]
         else:
             names, aliases, texts = spec.names, spec.aliases, item.body
-        for word in words_of(texts):
+        for word in words_of(texts) + operators_of(texts, [*names, *(spec.owners if spec else [])]):
             found = resolve(word, names, aliases, spec)
             if found:
                 left.append(found)

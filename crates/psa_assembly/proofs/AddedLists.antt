@@ -15,8 +15,8 @@ use Rattle.psa_names.specs.Outlines.{Entry, Entries}
 use Rattle.psa_names.specs.Meanings.{defined_by_group}
 use Rattle.psa_names.specs.Ids.{kind_number}
 use Rattle.psa_names.specs.ModelOfDraft.{model_name, expression_in, gate_of, group_of, basics_of, defined_basics}
-use Rattle.psa_assembly.specs.Made.{house_of, parameter_of, fault_tree_of, functional_of, initiating_of}
-use Rattle.psa_assembly.specs.MadeWalks.{rule_of, sequence_of, event_tree_of, named_branch_of}
+use Rattle.psa_bodies.specs.Made.{house_of, parameter_of, fault_tree_of, functional_of, initiating_of}
+use Rattle.psa_bodies.specs.MadeWalks.{rule_of, sequence_of, event_tree_of, named_branch_of}
 use Rattle.psa_assembly.specs.Assembling.{lists_of, with_lists}
 use Rattle.psa_assembly.specs.Groups.{event_of_group}
 

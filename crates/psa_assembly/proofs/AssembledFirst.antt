@@ -20,10 +20,10 @@ use Rattle.psa_names.specs.Found.{IsFound, meaning_of_sense}
 use Rattle.psa_names.specs.Collected.{collected_before}
 use Rattle.psa_names.specs.NameFaults.{name_fault}
 use Rattle.psa_assembly.specs.declared.assembly.Assembly.{Assembly}
-use Rattle.psa_assembly.specs.Assembling.{IsPromised, IsNext, Adds, lists_of, with_lists, joined_lists, no_lists, formulas_of}
-use Rattle.psa_assembly.proofs.NumberedDefinitions.{get-map}
-use Rattle.psa_assembly.proofs.NumberingInOrder.{IsNumberable, take-next, drop-next, count-few, group-or-none, group-family}
-use Rattle.psa_assembly.proofs.Numberable.{numberable}
+use Rattle.psa_assembly.specs.Assembling.{IsPromised, IsNext, Adds, lists_of, with_lists, joined_lists, no_lists, formulas_of, meanings_in, AreAssembled}
+use Rattle.psa_bodies.proofs.NumberedDefinitions.{get-map}
+use Rattle.psa_bodies.proofs.NumberingInOrder.{IsNumberable, take-next, drop-next, count-few, group-or-none, group-family}
+use Rattle.psa_bodies.proofs.Numberable.{numberable}
 
 -- ---- lists
 
@@ -82,15 +82,6 @@ known-members entries i one can there =
     ]
 
 -- ---- the first definitions
-
-abbrev pub meanings_in : Entries → Entry → List (Option Meaning)
-meanings_in entries one = map (meaning_of entries one) (references_of one)
-
-pub record AreAssembled (entries : Entries) (i : ℕ) (assembly : Assembly) (lists : List (List Formula)) : Type 0 where
-  pub model : assembly.model ≡ joined_lists entries (take i entries)
-  pub lists_are : lists ≡ map (formulas_of entries) (take i entries)
-  pub references : map (meaning_of_sense entries) assembly.references ≡ flat_map (meanings_in entries) (drop i entries)
-  pub members : map (meaning_of_sense entries) assembly.members ≡ flat_map (meanings_of_members entries) (drop i entries)
 
 pub none-assembled : (draft : Draft) (found : Found) (assembly : Assembly) (lists : List (List Formula)) → IsFound draft found → assembly.model ≡ no_lists → assembly.references ≡ found.references → assembly.members ≡ found.members → lists ≡ [] → AreAssembled (entries_of draft) 0 assembly lists
 none-assembled draft found assembly lists is model references members none = record {

@@ -9,8 +9,8 @@ use Rattle.psa_names.proofs.Sums.{weigh, sum-weigh}
 use Rattle.psa_names.proofs.ContentsOrder.{entries-ascend}
 use Rattle.psa_names.proofs.ContentsSorted.{weigh-by, has-by, by-sorted}
 use Rattle.psa_names.proofs.FewCollected.{few-collected}
-use Rattle.psa_assembly.proofs.ContentsPlaces.{weight_before, weigh-before}
-use Rattle.psa_assembly.proofs.CountedBefore.{weigh-has}
+use Rattle.psa_bodies.proofs.ContentsPlaces.{weight_before, weigh-before}
+use Rattle.psa_bodies.proofs.CountedBefore.{weigh-has}
 
 abbrev collecting : Entry → ℕ
 collecting one = length (collected_in one.body)

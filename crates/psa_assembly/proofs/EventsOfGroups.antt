@@ -19,10 +19,10 @@ use Rattle.psa_names.specs.Outlines.{Entry, Entries}
 use Rattle.psa_names.specs.Meanings.{Meaning, definition, of_group, members_of, defined_by_group, definition_named, is_defined_by_group, meaning_of_event}
 use Rattle.psa_names.specs.GroupRules.{meanings_of_members}
 use Rattle.psa_names.specs.Found.{meaning_of_sense, defined_by_groups}
-use Rattle.psa_assembly.specs.Counts.{is_of_group}
+use Rattle.psa_bodies.specs.Counts.{is_of_group}
 use Rattle.psa_assembly.specs.Groups.{names_of_groups, event_of_group}
-use Rattle.psa_assembly.proofs.CountedMembers.{IsNext}
-use Rattle.psa_assembly.proofs.NumberingInOrder.{drop-next}
+use Rattle.psa_bodies.proofs.CountedMembers.{IsNext}
+use Rattle.psa_bodies.proofs.NumberingInOrder.{drop-next}
 
 -- ---- events one after another
 

@@ -8,7 +8,7 @@ use Rattle.psa_model.specs.declared.limits.TheConstants.{MAX_MEMBERS}
 use Rattle.psa_model.specs.declared.model.Factor.{Factor}
 use Rattle.psa_names.specs.ModelOfDraft.{by_level}
 use Rattle.psa_assembly.specs.Groups.{with_factor}
-use Rattle.psa_assembly.proofs.NumberingInOrder.{filter-append}
+use Rattle.psa_bodies.proofs.NumberingInOrder.{filter-append}
 
 abbrev at_level : ℕ → List Factor → List Factor
 at_level level xs = filter (λ f. eqb f.level level) xs

@@ -7,10 +7,10 @@ use Rattle.psa_model.specs.Drafts.{IsDraft}
 use Rattle.psa_model.specs.declared.draft.Draft.{Draft}
 use Rattle.psa_names.specs.Outlines.{entries_of}
 use Rattle.psa_names.specs.NameFaults.{name_fault}
-use Rattle.psa_assembly.specs.declared.numbers.Numbered.{Numbered}
-use Rattle.psa_assembly.specs.declared.numbers.Numbers.{Numbers}
-use Rattle.psa_assembly.specs.Numbering.{AreNumbers, numbered}
-use Rattle.psa_assembly.proofs.Numberable.{numberable}
+use Rattle.psa_bodies.specs.declared.numbers.Numbered.{Numbered}
+use Rattle.psa_bodies.specs.declared.numbers.Numbers.{Numbers}
+use Rattle.psa_bodies.specs.Numbering.{AreNumbers, numbered}
+use Rattle.psa_bodies.proofs.Numberable.{numberable}
 
 -- fewer than a number that a u32 holds
 pub few-numbers : (draft : Draft) (numbers : Numbers) → IsDraft draft → name_fault draft ≡ None → AreNumbers (entries_of draft) numbers → length numbers.definitions < 4294967296

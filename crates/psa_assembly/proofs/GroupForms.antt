@@ -28,15 +28,15 @@ use Rattle.psa_names.specs.Found.{meaning_of_sense}
 use Rattle.psa_names.specs.Ids.{basic_id}
 use Rattle.psa_names.specs.Resolved.{resolved_expression}
 use Rattle.psa_names.specs.ModelOfDraft.{by_level, factor_of, group_of, member_ids}
-use Rattle.psa_assembly.specs.declared.numbers.Numbers.{Numbers}
+use Rattle.psa_bodies.specs.declared.numbers.Numbers.{Numbers}
 use Rattle.psa_assembly.specs.Groups.{factor_references, ids_of, path_references, with_factor}
-use Rattle.psa_assembly.specs.Made.{IsMade}
-use Rattle.psa_assembly.specs.Numbering.{AreNumbers}
-use Rattle.psa_assembly.specs.Reading.{Reads}
-use Rattle.psa_assembly.proofs.CountedMembers.{IsNext, next-taken}
+use Rattle.psa_bodies.specs.Made.{IsMade}
+use Rattle.psa_bodies.specs.Numbering.{AreNumbers}
+use Rattle.psa_bodies.specs.Reading.{Reads}
+use Rattle.psa_bodies.proofs.CountedMembers.{IsNext, next-taken}
 use Rattle.psa_assembly.proofs.FactorLevels.{one-more-level}
-use Rattle.psa_assembly.proofs.MadeDefinitions.{made-by, references-said}
-use Rattle.psa_assembly.proofs.ReadingInOrder.{reads-as, reads-none, reads-then, flat_map-map}
+use Rattle.psa_bodies.proofs.MadeDefinitions.{made-by, references-said}
+use Rattle.psa_bodies.proofs.ReadingInOrder.{reads-as, reads-none, reads-then, flat_map-map}
 
 -- ---- members that are paths
 

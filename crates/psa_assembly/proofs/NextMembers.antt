@@ -14,7 +14,7 @@ use Rattle.psa_names.specs.Found.{meaning_of_sense}
 use Rattle.psa_names.specs.Ids.{basic_id}
 use Rattle.psa_names.specs.ModelOfDraft.{member_ids}
 use Rattle.psa_assembly.specs.Groups.{ids_of}
-use Rattle.psa_assembly.proofs.NumberingInOrder.{take-mapped}
+use Rattle.psa_bodies.proofs.NumberingInOrder.{take-mapped}
 
 filter_map-map : {A B C : Type 0} (g : B → Option C) (f : A → B) (xs : List A) → filter_map g (map f xs) ≡ filter_map (λ x. g (f x)) xs
 filter_map-map g f [] = refl

@@ -9,9 +9,9 @@ use Rattle.psa_names.specs.Outlines.{Entry, Entries, entries_of}
 use Rattle.psa_names.specs.Collected.{by_contents}
 use Rattle.psa_names.proofs.ContentsOrder.{contents-never, entries-ascend}
 use Rattle.psa_names.proofs.ContentsSorted.{IsSorted, by-sorted}
-use Rattle.psa_assembly.specs.Joining.{AreApart}
-use Rattle.psa_assembly.proofs.ContentsPlaces.{sorted-at}
-use Rattle.psa_assembly.proofs.NumberedDefinitions.{get-map}
+use Rattle.psa_bodies.specs.Joining.{AreApart}
+use Rattle.psa_bodies.proofs.ContentsPlaces.{sorted-at}
+use Rattle.psa_bodies.proofs.NumberedDefinitions.{get-map}
 
 -- no definition stands twice in the order of contents
 sorted-once : (draft : Draft) → IsDraft draft → (i j : ℕ) (x : Entry) → slice_get (by_contents (entries_of draft)) i ≡ Some x → slice_get (by_contents (entries_of draft)) j ≡ Some x → i ≡ j

@@ -6,7 +6,7 @@ use Rattle.std.specs.List.{flat_map}
 use Rattle.psa_model.specs.declared.model.Valued.{Valued}
 use Rattle.psa_model.specs.declared.model.Valued.TheVariants as valued
 use Rattle.psa_names.specs.Ids.{kind_number}
-use Rattle.psa_assembly.specs.declared.numbers.Numbered.{Numbered}
+use Rattle.psa_bodies.specs.declared.numbers.Numbered.{Numbered}
 use Rattle.psa_assembly.specs.Values.{valued_by}
 
 -- what is asked of members is asked of the definition alone

@@ -19,13 +19,13 @@ use Rattle.psa_names.specs.Meanings.{definition}
 use Rattle.psa_names.specs.Ids.{kind_number, is_kind, all_of_kind, id_of, basic_id}
 use Rattle.psa_names.specs.Collected.{by_contents}
 use Rattle.psa_names.specs.ModelOfDraft.{gate_of, group_of, member_ids, is_member, valued_at, model_from}
-use Rattle.psa_assembly.specs.declared.numbers.Numbers.{Numbers}
-use Rattle.psa_assembly.specs.Numbering.{own_id, numbered, AreNumbers}
+use Rattle.psa_bodies.specs.declared.numbers.Numbers.{Numbers}
+use Rattle.psa_bodies.specs.Numbering.{own_id, numbered, AreNumbers}
 use Rattle.psa_assembly.specs.Values.{is_among, has_member, valued_by}
-use Rattle.psa_assembly.specs.Made.{house_of, parameter_of, fault_tree_of, functional_of, initiating_of}
-use Rattle.psa_assembly.specs.MadeWalks.{rule_of, sequence_of, event_tree_of, named_branch_of}
+use Rattle.psa_bodies.specs.Made.{house_of, parameter_of, fault_tree_of, functional_of, initiating_of}
+use Rattle.psa_bodies.specs.MadeWalks.{rule_of, sequence_of, event_tree_of, named_branch_of}
 use Rattle.psa_assembly.specs.Assembling.{only_of, joined_lists, formulas_of}
-use Rattle.psa_assembly.proofs.NumberedDefinitions.{get-map, kinds-same}
+use Rattle.psa_bodies.proofs.NumberedDefinitions.{get-map, kinds-same}
 use Rattle.psa_assembly.proofs.ValuesInOrder.{valued-same}
 
 -- ---- the lists of kinds

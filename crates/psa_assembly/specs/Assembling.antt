@@ -1,5 +1,5 @@
 -- The lists of the model, a definition at a time. (This project's own.)
-use Rattle.std.specs.Prelude.{◌≡◌, ◌<◌, ◌^◌, true, List, [], ◌∷◌, ◌++◌, Option, map, is_some, if◌then◌else◌}
+use Rattle.std.specs.Prelude.{◌≡◌, ◌<◌, ◌^◌, ℕ, true, List, [], ◌∷◌, ◌++◌, Option, map, take, drop, is_some, if◌then◌else◌}
 use Rattle.std.specs.List.{flat_map, list_all}
 use Rattle.psa_model.specs.declared.model.Model.{Model}
 use Rattle.psa_model.specs.declared.formula.Formula.{Formula}
@@ -17,8 +17,8 @@ use Rattle.psa_names.specs.Resolved.{resolved_formula}
 use Rattle.psa_names.specs.Collected.{collected_in}
 use Rattle.psa_names.specs.ModelOfDraft.{gate_of, basics_of, group_of}
 use Rattle.psa_assembly.specs.declared.assembly.Assembly.{Assembly}
-use Rattle.psa_assembly.specs.Made.{house_of, parameter_of, fault_tree_of, functional_of, initiating_of}
-use Rattle.psa_assembly.specs.MadeWalks.{rule_of, sequence_of, event_tree_of, named_branch_of}
+use Rattle.psa_bodies.specs.Made.{house_of, parameter_of, fault_tree_of, functional_of, initiating_of}
+use Rattle.psa_bodies.specs.MadeWalks.{rule_of, sequence_of, event_tree_of, named_branch_of}
 
 -- what is promised of a definition of a draft
 pub record IsPromised (definition : DraftDefinition) : Type 0 where
@@ -122,3 +122,14 @@ pub record Adds (entries : Entries) (one : Entry) (old new : Assembly) : Type 0 
   pub model : new.model ≡ with_lists old.model (lists_of entries one)
   pub references : map (meaning_of_sense entries) old.references ≡ map (meaning_of entries one) (references_of one) ++ map (meaning_of_sense entries) new.references
   pub members : map (meaning_of_sense entries) old.members ≡ meanings_of_members entries one ++ map (meaning_of_sense entries) new.members
+
+-- what the references of a definition stand for
+abbrev pub meanings_in : Entries → Entry → List (Option Meaning)
+meanings_in entries one = map (meaning_of entries one) (references_of one)
+
+-- the first definitions are in the lists, with the formulas that each collects, and the next senses are those of the others
+pub record AreAssembled (entries : Entries) (i : ℕ) (assembly : Assembly) (lists : List (List Formula)) : Type 0 where
+  pub model : assembly.model ≡ joined_lists entries (take i entries)
+  pub lists_are : lists ≡ map (formulas_of entries) (take i entries)
+  pub references : map (meaning_of_sense entries) assembly.references ≡ flat_map (meanings_in entries) (drop i entries)
+  pub members : map (meaning_of_sense entries) assembly.members ≡ flat_map (meanings_of_members entries) (drop i entries)

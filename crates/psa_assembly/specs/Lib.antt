@@ -1,13 +1,3 @@
-pub mod Counts
-pub mod Numbering
-pub mod Reading
-pub mod Trees
-pub mod Made
-pub mod Collecting
-pub mod Branches
-pub mod MadeWalks
 pub mod Groups
-pub mod Contents
-pub mod Joining
 pub mod Values
 pub mod Assembling

@@ -6,7 +6,7 @@ use Rattle.psa_model.specs.declared.model.Group.{Group}
 use Rattle.psa_model.specs.declared.model.Valued.{Valued}
 use Rattle.psa_model.specs.declared.model.Valued.TheVariants as valued
 use Rattle.psa_names.specs.Ids.{kind_number}
-use Rattle.psa_assembly.specs.declared.numbers.Numbered.{Numbered}
+use Rattle.psa_bodies.specs.declared.numbers.Numbered.{Numbered}
 
 abbrev pub is_among : ℕ → List EventId → Bool
 is_among id members = list_any (λ member. member.0 == id) members

@@ -1,18 +1,18 @@
-ghost use Rattle.std.specs.Prelude.{◌≡◌, ◌<◌, ◌+◌, ◌^◌, ◌++◌, length, map, true, IfOk, OnOk};
+ghost use Rattle.std.specs.Prelude.{◌≡◌, ◌<◌, ◌+◌, ◌^◌, ◌++◌, length, map, true, None, IfOk, OnOk};
 ghost use Rattle.psa_model.specs.declared.draft.DraftBody.TheVariants as body_of;
-ghost use Rattle.psa_model.specs.Drafts.{has_body};
+ghost use Rattle.psa_model.specs.Drafts.{IsDraft, has_body};
 ghost use Rattle.psa_names.specs.Outlines.{entry_of, entries_of};
 ghost use Rattle.psa_names.specs.Collected.{collected_before, collected_in};
+ghost use Rattle.psa_names.specs.NameFaults.{name_fault};
 ghost use Rattle.psa_names.specs.Resolved.{resolved_formula};
-ghost use Rattle.psa_assembly.specs.Assembling.{Adds, IsNext, IsPromised};
-ghost use Rattle.psa_assembly.specs.Made.{IsContext};
+ghost use Rattle.psa_assembly.specs.Assembling.{Adds, AreAssembled, IsNext, IsPromised, formulas_of, joined_lists};
+ghost use Rattle.psa_bodies.specs.Made.{IsContext};
 
 use crate::assembly::Assembly;
-use crate::collected::Collected;
-use crate::context::Context;
 use crate::groups::{make_group, push_events, resolve_members};
-use crate::trees::number_of;
-use crate::walks::{make_event_tree, make_named_branch, make_rule, make_sequence};
+use psa_bodies::{
+    Collected, Context, make_event_tree, make_named_branch, make_rule, make_sequence, number_of,
+};
 use psa_model::{
     DefinitionKind, DraftBody, DraftBranch, DraftDefinition, DraftGroup, DraftInstruction,
     DraftReference, Formula,
@@ -21,8 +21,36 @@ use psa_text::{Items, OutOfMemory};
 use std::alloc::Global;
 
 impl<'a> Assembly<'a> {
+    /// Adds all definitions. The formulas that each collects, behind so many others, come as a list of
+    /// their own.
+    pub fn add_definitions(
+        &mut self,
+        alloc: Global,
+        context: &Context,
+        before: &[u32],
+        lists: &mut Vec<Items<Formula>>,
+    ) -> Result<(), OutOfMemory>
+        requires context { IsContext context.now }
+        requires draft { IsDraft context.now.draft.now }
+        requires faultless { name_fault context.now.draft.now ≡ None }
+        requires before { before.now ≡ map (collected_before (entries_of context.now.draft.now))
+            (entries_of context.now.draft.now) }
+        requires none { AreAssembled (entries_of context.now.draft.now) 0 self.old lists.old.items }
+        ensures model { OnOk result (self.new.model
+            ≡ joined_lists (entries_of context.now.draft.now) (entries_of context.now.draft.now)) }
+        ensures lists { OnOk result (lists.new.items
+            ≡ map (formulas_of (entries_of context.now.draft.now)) (entries_of context.now.draft.now)) }
+    {
+        for (place, definition) in context.draft.definitions.as_slice().iter().enumerate() {
+            let number = before[place];
+            let formulas = self.add_definition(alloc, context, definition, number)?;
+            lists.push(formulas)?;
+        }
+        Ok(())
+    }
+
     /// Adds a definition, and gives the formulas that it collects; the first has this number.
-    pub fn add_definition(
+    fn add_definition(
         &mut self,
         alloc: Global,
         context: &Context,

@@ -4,17 +4,15 @@ ghost use Rattle.psa_model.specs.declared.draft.DraftBody.TheVariants as body_of
 ghost use Rattle.psa_model.specs.Drafts.{has_body};
 ghost use Rattle.psa_names.specs.Outlines.{entry_of, entries_of};
 ghost use Rattle.psa_assembly.specs.Assembling.{Adds, IsNext, no_lists};
-ghost use Rattle.psa_assembly.specs.Made.{IsContext};
+ghost use Rattle.psa_bodies.specs.Made.{IsContext};
 
-use crate::context::Context;
-use crate::cursor::Cursor;
-use crate::definitions::{
-    make_basic_event, make_fault_tree, make_functional_event, make_gate, make_house_event,
-    make_initiating_event, make_parameter,
+use psa_bodies::{
+    Context, Cursor, make_basic_event, make_fault_tree, make_functional_event, make_gate,
+    make_house_event, make_initiating_event, make_parameter, number_of,
 };
-use crate::trees::number_of;
 use psa_model::{
-    DefinitionKind, DraftDefinition, DraftExpression, DraftFormula, DraftReference, Model,
+    DefinitionKind, DraftDefinition, DraftExpression, DraftFormula, DraftReference, Formula, Model,
+    Valued,
 };
 use psa_names::Found;
 use psa_text::{Items, OutOfMemory};
@@ -68,6 +66,21 @@ impl<'a> Assembly<'a> {
             fault_tree: 0,
             event_tree: 0,
         }
+    }
+
+    /// The model of the definitions so far.
+    pub fn into_model(self) -> Model
+        ensures { result ≡ self.entry.model }
+    {
+        self.model
+    }
+
+    /// Puts the formulas and the order of values into the model.
+    pub fn complete(&mut self, formulas: Items<Formula>, order: Items<Valued>)
+        ensures { self.new.model ≡ record self.old.model { formulas = formulas; order = order } }
+    {
+        self.model.formulas = formulas;
+        self.model.order = order;
     }
 
     /// Adds the definition of a kind that says nothing: a fault tree or a functional event.

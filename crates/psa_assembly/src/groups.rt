@@ -7,14 +7,11 @@ ghost use Rattle.psa_model.specs.PathNames.{is_path as is_path_name};
 ghost use Rattle.psa_names.specs.Outlines.{Entries, entry_of, entries_of};
 ghost use Rattle.psa_names.specs.ModelOfDraft.{by_level, factor_of, group_of, member_ids};
 ghost use Rattle.psa_assembly.specs.Groups.{event_of_group, factor_references, ids_of, names_of_groups, path_references, with_factor};
-ghost use Rattle.psa_assembly.specs.Made.{IsContext, IsMade};
-ghost use Rattle.psa_assembly.specs.Numbering.{AreNumbers};
-ghost use Rattle.psa_assembly.specs.Reading.{Reads};
+ghost use Rattle.psa_bodies.specs.Made.{IsContext, IsMade};
+ghost use Rattle.psa_bodies.specs.Numbering.{AreNumbers};
+ghost use Rattle.psa_bodies.specs.Reading.{Reads};
 
-use crate::context::Context;
-use crate::cursor::Cursor;
-use crate::expressions::resolve_expression;
-use crate::numbers::{Numbers, basic_of_sense, skip_reference};
+use psa_bodies::{Context, Cursor, Numbers, basic_of_sense, resolve_expression, skip_reference};
 use psa_model::{
     BasicEvent, DraftDefinition, DraftFactor, DraftGroup, DraftReference, EventId, Factor, Group,
     MAX_MEMBERS, Place,

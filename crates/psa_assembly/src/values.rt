@@ -2,7 +2,7 @@ ghost use Rattle.std.specs.Prelude.{◌≡◌, ◌==◌, ◌++◌, ℕ, false, g
 ghost use Rattle.std.specs.List.{flat_map, list_any};
 ghost use Rattle.psa_assembly.specs.Values.{has_member, is_among, valued_by};
 
-use crate::numbers::{Numbered, Numbers, same_kind};
+use psa_bodies::{Numbered, Numbers, same_kind};
 use psa_model::{DefinitionKind, EventId, Group, GroupId, Valued};
 use psa_text::{Items, OutOfMemory};
 use sqlite_items::at;

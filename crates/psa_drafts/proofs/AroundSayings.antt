@@ -2,7 +2,7 @@
 use Rattle.std.proofs.Common.{ℕ, Bool, false, List}
 use Rattle.psa_model.specs.PathNames.{Text}
 use Rattle.psa_elements.specs.DraftReading.{Surroundings}
-use Rattle.psa_drafts.specs.declared.start.Around.{Around}
+use Rattle.psa_draft_parts.specs.declared.start.Around.{Around}
 
 abbrev pub inner_of : Around → List Text → Bool → Surroundings
 inner_of around container is_private = record { file = around.file; container = container; is_private = is_private }

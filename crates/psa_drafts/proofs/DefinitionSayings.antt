@@ -16,12 +16,12 @@ use Rattle.psa_model.specs.declared.draft.DraftBody.TheVariants as body
 use Rattle.psa_elements.specs.ElementTable as table
 use Rattle.psa_elements.specs.ElementTable.{Row, label, attributes, rows_inside, has_tag, instructions, ends, in_root, in_container, in_event_tree, initial_state}
 use Rattle.psa_elements.specs.DraftReading.{Surroundings, StartTag, Reading, reading_of, surroundings_inside, definitions_of, definitions_in, initial_state_of, instruction_of, end_of, some_definitions, an_initial_state, before_others, defines, defines_by_role, is_private, own_name, branch_in, first_in, reference}
-use Rattle.psa_drafts.specs.declared.rows.PlainRow.{PlainRow}
-use Rattle.psa_drafts.specs.declared.rows.PlainRow.TheVariants as plain
-use Rattle.psa_drafts.specs.Rows.{row_of_plain, kind_of, may_be_private, model_data_rows, event_tree_rows}
+use Rattle.psa_draft_parts.specs.declared.rows.PlainRow.{PlainRow}
+use Rattle.psa_draft_parts.specs.declared.rows.PlainRow.TheVariants as plain
+use Rattle.psa_draft_parts.specs.Rows.{row_of_plain, kind_of, may_be_private, model_data_rows, event_tree_rows}
 use Rattle.psa_drafts.specs.Bodies.{rows_in, body_of}
-use Rattle.psa_drafts.specs.Sayings.{size_of, start_tag, reading_as, reading_found, reading_among, readings_among, inside_among}
-use Rattle.psa_drafts.proofs.Readings.{reading-as, unlabelled}
+use Rattle.psa_draft_parts.specs.Sayings.{size_of, start_tag, reading_as, reading_found, reading_among, readings_among, inside_among}
+use Rattle.psa_draft_parts.proofs.Readings.{reading-as, unlabelled}
 
 -- ---- definitions that no definition stands in
 

@@ -14,8 +14,8 @@ use Rattle.psa_text.specs.declared.tree.Element.TheFolds.{fold_out-Element}
 use Rattle.psa_elements.specs.ElementTable.{in_root}
 use Rattle.psa_elements.specs.DraftReading.{definitions_of, definitions_in, file_definitions, whole_file}
 use Rattle.psa_model.specs.declared.draft.DraftDefinition.{DraftDefinition}
-use Rattle.psa_drafts.specs.Sayings.{size_of, sizes_of, are_short, reading_as, inside_among, AreReadable}
-use Rattle.psa_drafts.proofs.Readings.{size-out}
+use Rattle.psa_draft_parts.specs.Sayings.{size_of, sizes_of, are_short, reading_as, inside_among, AreReadable}
+use Rattle.psa_draft_parts.proofs.Readings.{size-out}
 use Rattle.psa_drafts.proofs.DefinitionSayings.{says-root}
 
 -- ---- sizes

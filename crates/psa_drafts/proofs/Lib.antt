@@ -1,12 +1,4 @@
-pub mod Readings
-pub mod Passing
-pub mod FormulaSayings
-pub mod ExpressionSayings
-pub mod ConditionSayings
-pub mod InstructionSayings
-pub mod GroupSayings
 pub mod DefinitionSayings
-pub mod NumberSayings
 pub mod ShortNumbers
 pub mod DocumentSayings
 pub mod AroundSayings

@@ -18,8 +18,8 @@ use Rattle.psa_model.specs.declared.formula.Connective.TheVariants.{And, Atleast
 use Rattle.psa_model.specs.declared.expression.ExpressionOperator.TheVariants as operation
 use Rattle.psa_elements.specs.ElementTable.{Row, opsa_mef, label, connective, operator, factor, AttributeRule, a_number, are_digits, rule_of, rows_inside, row_inside, has_tag}
 use Rattle.psa_elements.specs.ShapeFaults.{has_name, value_in, unknown_or_repeated, missing, wrong_value, attribute_faults, own_faults, fault_at, child_faults, faults_layer, ElementFaults, element_faults, root_faults, shape_faults, shape_fault}
-use Rattle.psa_drafts.specs.Sayings.{is_short, are_short}
-use Rattle.psa_drafts.proofs.Passing.{own_short, are_short-back}
+use Rattle.psa_draft_parts.specs.Sayings.{is_short, are_short}
+use Rattle.psa_draft_parts.proofs.Passing.{own_short, are_short-back}
 
 -- ---- lists without an element
 

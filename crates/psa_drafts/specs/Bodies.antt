@@ -5,9 +5,9 @@ use Rattle.psa_model.specs.declared.draft.DraftBody.{DraftBody}
 use Rattle.psa_model.specs.declared.draft.DraftBody.TheVariants as body
 use Rattle.psa_elements.specs.DraftReading.{StartTag, Reading, formula_in, value_body, state_in, group_in, event_tree_of, instructions_in, link_of, branch_in}
 use Rattle.psa_elements.specs.ElementTable.{Row, formulas, expressions, constant, instructions, to_event_tree, ends}
-use Rattle.psa_drafts.specs.declared.rows.PlainRow.{PlainRow}
-use Rattle.psa_drafts.specs.declared.rows.PlainRow.TheVariants as plain
-use Rattle.psa_drafts.specs.Rows.{group_rows}
+use Rattle.psa_draft_parts.specs.declared.rows.PlainRow.{PlainRow}
+use Rattle.psa_draft_parts.specs.declared.rows.PlainRow.TheVariants as plain
+use Rattle.psa_draft_parts.specs.Rows.{group_rows}
 
 -- what stands in such a definition, but for labels
 abbrev pub rows_in : PlainRow → List Row

@@ -1,6 +1,1 @@
-pub mod Starts
-pub mod Sayings
-pub mod Rows
 pub mod Bodies
-pub mod Groups
-pub mod Events

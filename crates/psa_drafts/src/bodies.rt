@@ -5,19 +5,15 @@ ghost use Rattle.psa_elements.specs.DraftReading.{event_tree_of as event_tree_re
 ghost use Rattle.psa_model.specs.declared.draft.DraftBody.TheVariants.{Start, Steps};
 ghost use Rattle.psa_elements.specs.ElementTable as table;
 ghost use Rattle.psa_drafts.specs.Bodies.{body_of, rows_in};
-ghost use Rattle.psa_drafts.specs.Sayings.{IsReadable, inside_among, reading_among, size_of, start_tag};
-ghost use Rattle.psa_drafts.specs.Starts.{around_of};
+ghost use Rattle.psa_draft_parts.specs.Sayings.{IsReadable, inside_among, reading_among, size_of, start_tag};
+ghost use Rattle.psa_draft_parts.specs.Starts.{around_of};
 
-use crate::attributes::{reference, reference_by, value_at};
 use crate::branches::branch;
-use crate::counting::pass_over;
-use crate::expressions::first_expression;
-use crate::formulas::{formula_in, state_in};
-use crate::groups::group;
-use crate::instructions::{instruction, instructions};
-use crate::lists::{keep_first, push_found};
-use crate::rows::{PlainRow, instruction_row};
-use crate::start::{Around, Reader, StartTag};
+use psa_draft_parts::{
+    Around, PlainRow, Reader, StartTag, first_expression, formula_in, group, instruction,
+    instruction_row, instructions, keep_first, pass_over, push_found, reference, reference_by,
+    state_in, value_at,
+};
 use psa_model::{DraftBody, DraftInstruction, DraftReference};
 use psa_text::{Element, Items, OutOfMemory};
 

@@ -3,16 +3,14 @@ ghost use Rattle.std.specs.List.{filter_map};
 ghost use Rattle.std.specs.Option.{option_or, option_to_list};
 ghost use Rattle.psa_elements.specs.DraftReading.{branch_in, end_of, instruction_of, path_of};
 ghost use Rattle.psa_elements.specs.ElementTable.{ends, instructions as instruction_rows, path as path_row};
-ghost use Rattle.psa_drafts.specs.Rows.{row_of_end};
-ghost use Rattle.psa_drafts.specs.Sayings.{IsReadable, inside_among, reading_among, reading_as, size_of, start_tag};
-ghost use Rattle.psa_drafts.specs.Starts.{around_of};
+ghost use Rattle.psa_draft_parts.specs.Rows.{row_of_end};
+ghost use Rattle.psa_draft_parts.specs.Sayings.{IsReadable, inside_among, reading_among, reading_as, size_of, start_tag};
+ghost use Rattle.psa_draft_parts.specs.Starts.{around_of};
 
-use crate::attributes::{place_of, reference, reference_by, text_at};
-use crate::counting::pass_over;
-use crate::instructions::instruction;
-use crate::lists::{keep_first, push_found};
-use crate::rows::{EndRow, end_row, instruction_row};
-use crate::start::{Around, Reader, StartTag};
+use psa_draft_parts::{
+    Around, EndRow, Reader, StartTag, end_row, instruction, instruction_row, keep_first, pass_over,
+    place_of, push_found, reference, reference_by, text_at,
+};
 use psa_model::{DraftBranch, DraftBranchEnd, DraftForkPath, DraftInstruction};
 use psa_text::{Element, Items, OutOfMemory, Text};
 

@@ -3,17 +3,16 @@ ghost use Rattle.std.specs.Option.{option_or, unwrap_or};
 ghost use Rattle.psa_elements.specs.DraftReading as reading;
 ghost use Rattle.psa_elements.specs.DraftReading.{definitions_of, initial_state_of, some_definitions};
 ghost use Rattle.psa_elements.specs.ElementTable as table;
-ghost use Rattle.psa_drafts.specs.Rows.{kind_of as kind_of_row, may_be_private as may_be_private_row, event_tree_rows, row_of_definition, row_of_plain, rows_of};
-ghost use Rattle.psa_drafts.specs.Sayings.{AreReadable, IsReadable, reading_among, reading_as, readings_among, size_of, sizes_of};
-ghost use Rattle.psa_drafts.specs.Starts.{around_of, start_of};
+ghost use Rattle.psa_draft_parts.specs.Rows.{kind_of as kind_of_row, may_be_private as may_be_private_row, event_tree_rows, row_of_definition, row_of_plain, rows_of};
+ghost use Rattle.psa_draft_parts.specs.Sayings.{AreReadable, IsReadable, reading_among, reading_as, readings_among, size_of, sizes_of};
+ghost use Rattle.psa_draft_parts.specs.Starts.{around_of, start_of};
 
-use crate::attributes::{is_private, own_name, place_of, reference};
 use crate::bodies::body;
 use crate::branches::branch;
-use crate::counting::pass_over;
-use crate::lists::keep_first;
-use crate::rows::{DefinitionRow, Inside, PlainRow, definition_row, event_tree_row};
-use crate::start::{Around, Reader, StartTag};
+use psa_draft_parts::{
+    Around, DefinitionRow, Inside, PlainRow, Reader, StartTag, definition_row, event_tree_row,
+    is_private, keep_first, own_name, pass_over, place_of, reference,
+};
 use psa_model::{DefinitionKind, DraftBody, DraftBranch, DraftBranchEnd, DraftDefinition};
 use psa_text::{Element, Items, OutOfMemory, Text};
 use std::alloc::Global;

@@ -5,11 +5,10 @@ ghost use Rattle.psa_text.specs.TreeSize.{elements_in};
 ghost use Rattle.psa_text.specs.declared.tree.Element.TheViews.{out-Element};
 ghost use Rattle.psa_elements.specs.DraftReading.{draft_of, file_definitions};
 ghost use Rattle.psa_elements.specs.ShapeFaults.{shape_fault};
-ghost use Rattle.psa_drafts.specs.Sayings.{are_short, size_of};
+ghost use Rattle.psa_draft_parts.specs.Sayings.{are_short, size_of};
 
 use crate::definitions::definitions_in;
-use crate::rows::Inside;
-use crate::start::{Around, Reader};
+use psa_draft_parts::{Around, Inside, Reader};
 use psa_model::{Draft, DraftDefinition};
 use psa_text::limits::{MAX_DEPTH, MAX_ELEMENTS};
 use psa_text::{Document, Element, Items, OutOfMemory};

@@ -13,8 +13,8 @@ use Rattle.psa_model.specs.declared.settings.Input.TheVariants.{Files, Sample}
 use Rattle.psa_model.specs.declared.settings.Settings.{Settings}
 use Rattle.psa_outcome.specs.Causes.{opened_files}
 use Rattle.psa_outcome.specs.Loading.{IsInput}
-use Rattle.psa_words.specs.declared.limits.TheConstants.{DEFAULT_LIMIT_ORDER, DEFAULT_MISSION_TIME, MAX_LIMIT_ORDER, MAX_NODE_LIMIT, MAX_SAMPLE, MIN_SAMPLE}
-use Rattle.psa_model.specs.declared.limits.TheConstants.{MAX_FILES}
+use Rattle.psa_words.specs.declared.limits.TheConstants.{DEFAULT_LIMIT_ORDER, DEFAULT_MISSION_TIME, MAX_LIMIT_ORDER, MAX_NODE_LIMIT}
+use Rattle.psa_model.specs.declared.limits.TheConstants.{MAX_FILES, MAX_SAMPLE, MIN_SAMPLE}
 use Rattle.psa_words.specs.Given.{Given, decimal_that, default_mission, given_of, has_conflict, input_of, is_fraction, is_not_below_zero, is_whole_number, optional_value, settings_from, settings_of, settings_with, value_or, values_of, whole_between}
 use Rattle.psa_words.specs.Reading.{Text}
 

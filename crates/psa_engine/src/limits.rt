@@ -9,8 +9,10 @@ ghost use Rattle.psa_model.specs.declared.limits.TheConstants.{
   MAX_MEMBERS,
   MAX_NESTING,
   MAX_PATHS,
+  MAX_SAMPLE,
   MAX_SIZE,
   MIN_MEMBERS,
+  MIN_SAMPLE,
 };
 ghost use Rattle.psa_model.specs.declared.model.TheConstants.{MAX_DEPTH};
 ghost use Rattle.psa_model.specs.declared.product.TheConstants.{MAX_COUNT, MAX_ORDER};
@@ -39,8 +41,6 @@ ghost use Rattle.psa_words.specs.declared.limits.TheConstants.{
   MAX_DIGITS as WHOLE_NUMBER_DIGITS,
   MAX_LIMIT_ORDER,
   MAX_NODE_LIMIT,
-  MAX_SAMPLE,
-  MIN_SAMPLE,
 };
 
 /// Each limit by its number. Definitions and clauses cite the constants; here is what they are, so that one of them

@@ -1,8 +1,9 @@
-ghost use Rattle.std.specs.Prelude.{◌≡◌, ◌≤◌, ℕ, Ok, Err, Some, None, IfOk, IfSome};
+ghost use Rattle.std.specs.Prelude.{◌≡◌, ◌≤◌, ℕ, true, Ok, Err, Some, None, IfOk, IfSome, OnOk};
 ghost use Rattle.std.specs.List.{AllZip};
 ghost use Rattle.psa_number.specs.Exponential.{last_term};
 ghost use Rattle.psa_number.specs.Fraction.{Holds};
 ghost use Rattle.psa_model.specs.declared.fault.ModelFault.{ModelFault};
+ghost use Rattle.psa_model.specs.Divisors.{divide_rightly};
 ghost use Rattle.psa_model.specs.Faults.{fault_at};
 ghost use Rattle.psa_model.specs.Values.{event_interval, finished, place_of_event, quantities_of, values_of};
 ghost use Rattle.psa_expr.specs.Answers.{AllRight};
@@ -45,6 +46,10 @@ pub fn evaluate(alloc: Global, expanded: &Expanded, mission: Decimal) -> Result<
     // The interval of each event holds its exact quantity.
     ensures bracket { IfOk result (λ values. (terms : ℕ) → last_term ≤ terms
         → AllZip Holds values (quantities_of terms mission expanded.now)) }
+
+    // No interval rests on a quotient by 0: each divisor has an exact value other than 0.
+    ensures divisors { OnOk result ((terms : ℕ) → last_term ≤ terms
+        → divide_rightly terms mission expanded.now ≡ true) }
 {
     let setting = Setting {
         model: &expanded.model,

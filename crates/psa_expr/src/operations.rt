@@ -10,16 +10,25 @@ use psa_number::{
 /// An interval, or why an operation refuses.
 pub type Computed = Result<Interval, NumberFault>;
 
+/// An operation that is folded over its arguments.
+#[derive(Clone, Copy)]
+enum Folded {
+    Sum,
+    Difference,
+    Product,
+    Quotient,
+}
+
 /// An operation on the values of its arguments, folded from left to right.
 pub fn operate(operator: ExpressionOperator, values: &[Interval]) -> Computed
     ensures { result ≡ interval_operation operator values.now }
 {
     match operator {
         ExpressionOperator::Neg => negate(values),
-        ExpressionOperator::Add => fold_values(operator, values),
-        ExpressionOperator::Sub => fold_values(operator, values),
-        ExpressionOperator::Mul => fold_values(operator, values),
-        ExpressionOperator::Div => fold_values(operator, values),
+        ExpressionOperator::Add => fold_values(Folded::Sum, values),
+        ExpressionOperator::Sub => fold_values(Folded::Difference, values),
+        ExpressionOperator::Mul => fold_values(Folded::Product, values),
+        ExpressionOperator::Div => fold_values(Folded::Quotient, values),
         ExpressionOperator::Exponential => distribute(values),
     }
 }
@@ -45,15 +54,15 @@ fn distribute(values: &[Interval]) -> Computed
 }
 
 /// The first value, and each further one by the operation, up to the first fault.
-fn fold_values(operator: ExpressionOperator, values: &[Interval]) -> Computed
-    ensures { result ≡ folded_ends (combined operator) values.now }
+fn fold_values(folded: Folded, values: &[Interval]) -> Computed
+    ensures { result ≡ folded_ends (combined folded) values.now }
 {
     if values.len() == 0 {
         return Err(NumberFault::NotDecimal);
     }
     let mut value = values[0];
     for place in 1..values.len() {
-        value = match combine(operator, value, values[place]) {
+        value = match combine(folded, value, values[place]) {
             Ok(next) => next,
             Err(fault) => return Err(fault),
         };
@@ -62,16 +71,14 @@ fn fold_values(operator: ExpressionOperator, values: &[Interval]) -> Computed
 }
 
 /// One step of a fold.
-fn combine(operator: ExpressionOperator, left: Interval, right: Interval) -> Computed
-    ensures { result ≡ combined operator left right }
+fn combine(folded: Folded, left: Interval, right: Interval) -> Computed
+    ensures { result ≡ combined folded left right }
 {
-    match operator {
-        ExpressionOperator::Add => add(left, right),
-        ExpressionOperator::Sub => sub(left, right),
-        ExpressionOperator::Mul => mul(left, right),
-        ExpressionOperator::Div => div(left, right),
-        ExpressionOperator::Neg => Err(NumberFault::NotDecimal),
-        ExpressionOperator::Exponential => Err(NumberFault::NotDecimal),
+    match folded {
+        Folded::Sum => add(left, right),
+        Folded::Difference => sub(left, right),
+        Folded::Product => mul(left, right),
+        Folded::Quotient => div(left, right),
     }
 }
 

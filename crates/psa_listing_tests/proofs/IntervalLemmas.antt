@@ -1,12 +1,13 @@
 -- The intervals of ranked events are within 0 and 1 where all are.
-use Rattle.std.proofs.Common.{ℕ, List, Option, Some, None, option_and_then, unwrap_or, subst, inl, inr, arith}
+use Rattle.std.proofs.Common.{ℕ, List, Option, Some, None, IfSome, true, get_or, option_and_then, unwrap_or, subst, inl, inr, arith}
 use Rattle.std.specs.List.{All, slice_get}
 use Rattle.std.proofs.lemmas.Int.{ints}
-use Rattle.std.proofs.lemmas.List.Elements.{All-get_or}
+use Rattle.std.proofs.lemmas.List.Elements.{All-from_get_or, All-get_or}
 use Rattle.std.proofs.lemmas.Option.{slice_get_cases}
 use Rattle.psa_number.specs.Ends.{Ends}
 use Rattle.psa_number.specs.Operations.{IsInUnit}
 use Rattle.psa_model.specs.declared.ids.EventNumber.{EventNumber}
+use Rattle.psa_model.specs.declared.product.Literal.{Literal}
 use Rattle.psa_model.specs.Quantities.{at_rank, zero_ends}
 
 zero-in_unit : IsInUnit zero_ends
@@ -26,3 +27,11 @@ rank-in_unit values all ranks rank = on (slice_get ranks rank)
     on : (number : Option EventNumber) → IsInUnit (unwrap_or (option_and_then (λ (n : EventNumber). slice_get values n.0) number) zero_ends)
     on None = zero-in_unit
     on (Some number) = place-in_unit values all number.0
+
+-- those of a product's events
+pub events-in_unit : (values : Option (List Ends)) (ranks : List EventNumber) (literals : List Literal) → IfSome values (All IsInUnit)
+    → IfSome values (λ (some : List Ends). All (λ (literal : Literal). IsInUnit (at_rank zero_ends some ranks literal.rank)) literals)
+events-in_unit None ranks literals all = tt
+events-in_unit (Some some) ranks literals all =
+    All-from_get_or (λ (literal : Literal). IsInUnit (at_rank zero_ends some ranks literal.rank)) literals (record { rank = 0; occurs = true })
+    (λ i within. rank-in_unit some all ranks (get_or literals i (record { rank = 0; occurs = true })).rank)

@@ -1,4 +1,4 @@
-ghost use Rattle.std.specs.Prelude.{◌≡◌, ◌<◌, ◌≤◌, ℕ, true, List, All, IfOk, int_le, length, pos};
+ghost use Rattle.std.specs.Prelude.{◌≡◌, ◌<◌, ◌≤◌, ℕ, true, List, All, IfOk, IfSome, int_le, length, pos};
 ghost use Rattle.psa_nodes.specs.declared.node.Kind.TheVariants.{Zbdd};
 ghost use Rattle.psa_nodes.specs.Readings.{has, stands};
 ghost use Rattle.psa_model.specs.declared.product.TheConstants.{MAX_ORDER};
@@ -9,10 +9,10 @@ ghost use Rattle.psa_model.specs.Literals.{literals_of};
 ghost use Rattle.psa_listing_tests.specs.Kept.{upper_end};
 
 use crate::families::{LITERALS, bit_of, expect_family, expect_order, long_family, small_family};
-use psa_model::{EventNumber, Product, Ranks, Values};
+use psa_model::{EventNumber, Literal, Product, Ranks, Values};
 use psa_nodes::{NodeError, NodeId, NodeTable, Steps};
 use psa_number::{Interval, UNITS};
-use psa_products::{Listing, Rule, bound};
+use psa_products::{Bounds, Listing, Rule, bound};
 use psa_text::{Items, OutOfMemory};
 use std::alloc::Global;
 use std::marker::Brand;
@@ -209,6 +209,44 @@ fn lists_small<L: Ledger>(
     Ok(())
 }
 
+/// The bound of a product alone, where there are intervals.
+fn bound_alone(values: &Option<Values>, ranks: &Ranks, product: &Product) -> Option<Interval>
+    requires { IfSome values.now (All IsInUnit) }
+{
+    match values {
+        Some(values) => Some(bound(values, ranks, product)),
+        None => None,
+    }
+}
+
+/// The product of the small literals whose bits are set.
+fn product_with(number: u32) -> Product {
+    let mut product = Product::new();
+    for literal in 0..LITERALS {
+        if number & bit_of(literal) != 0 {
+            let _pushed = product.try_push(Literal {
+                rank: literal / 2,
+                occurs: literal % 2 == 0,
+            });
+        }
+    }
+    product
+}
+
+/// Stops unless the bounds of products one after another are those of each alone.
+fn expect_bounds(rt: &impl Abort, values: &Option<Values>, ranks: &Ranks)
+    requires { IfSome values.now (All IsInUnit) }
+{
+    let mut bounds = Bounds::new(values, ranks);
+    let mut number = 1;
+    for _round in 0..300 {
+        number = scrambled(number);
+        let product = product_with(number);
+        let together = bounds.bound(&product);
+        assert_eq!(rt; together, bound_alone(values, ranks, &product));
+    }
+}
+
 /// The next number of a sequence without a pattern (Marsaglia's xorshift).
 fn scrambled(number: u32) -> u32 {
     let number = number ^ number.wrapping_shl(13);
@@ -263,4 +301,12 @@ fn families_are_listed(rt: HostRuntime) {
     let mut table = NodeTable::new(rt.alloc());
     let answer = lists_families::<Brand>(&rt, &mut table, (&values, &ranks), Blank::new(1));
     assert_eq!(rt; answer, Ok(()));
+}
+
+#[test]
+fn bounds_are_kept(rt: HostRuntime) {
+    let ranks = three_ranks(rt.alloc()).expect(&rt, "memory");
+    let values = Some(three_values(rt.alloc()).expect(&rt, "memory"));
+    expect_bounds(&rt, &values, &ranks);
+    expect_bounds(&rt, &None, &ranks);
 }

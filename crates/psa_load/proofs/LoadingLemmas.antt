@@ -17,6 +17,7 @@ use Rattle.psa_outcome.specs.declared.loaded.LoadError.{LoadError}
 use Rattle.psa_outcome.specs.declared.loaded.LoadError.TheVariants.{Bad, Read, Memory}
 use Rattle.psa_outcome.specs.Analyses.{analysis_of}
 use Rattle.psa_outcome.specs.Causes.{names_of, Analysed, IsBadModel, IsFiles, IsUnread}
+use Rattle.psa_model.specs.declared.limits.TheConstants.{MAX_FILES}
 use Rattle.psa_outcome.specs.Inputs.{Told, HasTree, IsFirstFault, of_trees, IsAnalysis}
 use Rattle.psa_outcome.specs.Loading.{IsInput, IsLoaded, loaded_analysis, LoadOutcome}
 use Rattle.psa_outcome.proofs.OutcomeLemmas.{ok-err, err-same, outcomes-same}
@@ -29,12 +30,12 @@ use Rattle.psa_load.proofs.FaultFiles.{faults-of-files}
 abbrev root : Document → Element
 root document = document.root
 
--- an input has at least one file, and at most 16
+-- an input has at least one file, and no more than a model has
 pub some-names : (input : Input) → IsInput input → 1 ≤ length (names_of input)
 some-names (Files names) is = is.0
 some-names (Sample n) is = omega arith
 
-pub few-names : (input : Input) → IsInput input → length (names_of input) ≤ 16
+pub few-names : (input : Input) → IsInput input → length (names_of input) ≤ MAX_FILES
 few-names (Files names) is = is.1
 few-names (Sample n) is = omega arith
 

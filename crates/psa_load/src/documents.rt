@@ -1,5 +1,6 @@
 ghost use Rattle.std.specs.Prelude.{◌≡◌, ◌+◌, ◌-◌, ◌*◌, ◌^◌, ◌≤◌, ℕ, suc, All, Err, IsTrue, IfOk, length};
 ghost use Rattle.psa_text.specs.declared.limits.TheConstants.{MAX_DEPTH, MAX_ELEMENTS};
+ghost use Rattle.psa_model.specs.declared.limits.TheConstants.{MAX_FILES};
 ghost use Rattle.psa_text.specs.Tree.{depth};
 ghost use Rattle.psa_text.specs.TreeSize.{elements_in};
 ghost use Rattle.psa_ports.specs.Counts.{Rose};
@@ -26,7 +27,7 @@ pub fn read_documents<F: Folder>(
     names: &[Text],
 ) -> Result<Items<Document>, LoadError>
     requires allowed { All (λ name. IsTrue (F.allows files.old name)) names.now }
-    requires few { length names.now ≤ 16 }
+    requires few { length names.now ≤ MAX_FILES }
     requires room { F.opens files.old ≤ 2 ^ 64 - 18 }
 
     ensures answer { FilesAnswer names.now (F.texts files.old) (F.rest files.new) result }

@@ -1,4 +1,5 @@
 ghost use Rattle.std.specs.Prelude.{◌≡◌, ◌+◌, ◌-◌, ◌*◌, ◌^◌, ◌≤◌, ◌∷◌, [], ℕ, suc, All, Err, IsTrue, IfOk, IsErrOf, List, Option, Some, length};
+ghost use Rattle.psa_model.specs.declared.limits.TheConstants.{MAX_SAMPLE, MIN_SAMPLE};
 ghost use Rattle.psa_text.specs.declared.limits.TheConstants.{MAX_DEPTH, MAX_ELEMENTS};
 ghost use Rattle.psa_text.specs.Tree.{depth};
 ghost use Rattle.psa_text.specs.TreeSize.{elements_in};
@@ -58,8 +59,8 @@ pub(crate) fn input_documents<F: Folder>(
 
 /// The tree of the sample model of a size, as the only one, or the first fault of its text.
 fn sample_documents(alloc: Global, n: u32) -> Result<Items<Document>, LoadError>
-    requires least { 2 ≤ n }
-    requires most { n ≤ 1000 }
+    requires least { MIN_SAMPLE ≤ n }
+    requires most { n ≤ MAX_SAMPLE }
     ensures answer { (rest : Option (List ℕ))
         → FilesAnswer (sample_name ∷ []) (Some (sample_files n)) rest result }
     ensures number { IfOk result (λ documents. length documents ≡ 1) }
@@ -87,8 +88,8 @@ fn alone(alloc: Global, document: Document) -> Result<Items<Document>, OutOfMemo
 
 /// The tree of the sample model of a size, or the first fault of its text.
 fn sample_document(alloc: Global, n: u32) -> Result<Document, DocumentError>
-    requires least { 2 ≤ n }
-    requires most { n ≤ 1000 }
+    requires least { MIN_SAMPLE ≤ n }
+    requires most { n ≤ MAX_SAMPLE }
     ensures answer { (rest : Option (List ℕ))
         → DocumentAnswers (sample_files n) sample_name rest result }
     ensures flat { IfOk result (λ document. depth document.root ≤ MAX_DEPTH) }

@@ -1,16 +1,17 @@
 ghost use Rattle.std.specs.Prelude.{◌≡◌, ◌++◌, ◌≤◌, codes, IfOk, OnOk, string_bytes};
 ghost use Rattle.std.specs.List.{flat_map, range_with_len};
+ghost use Rattle.psa_model.specs.declared.limits.TheConstants.{MAX_SAMPLE, MIN_SAMPLE};
 ghost use Rattle.psa_outcome.specs.SampleText.{event_definition, sample_text, train_definitions, train_gate, train_reference};
 
 use psa_text::{OutOfMemory, Text};
 use std::alloc::Global;
 use std::fmt::Write;
 
-/// The text of the sample model of a size, 2 to 1,000: a gate that wants two of so many trains, each of
+/// The text of the sample model of a size: a gate that wants two of so many trains, each of
 /// two basic events.
 pub fn sample_text(alloc: Global, n: u32) -> Result<Text, OutOfMemory>
-    requires least { 2 ≤ n }
-    requires most { n ≤ 1000 }
+    requires least { MIN_SAMPLE ≤ n }
+    requires most { n ≤ MAX_SAMPLE }
     ensures { IfOk result (λ text. text ≡ sample_text n) }
 {
     let mut text = String::new(alloc);
@@ -25,7 +26,7 @@ pub fn sample_text(alloc: Global, n: u32) -> Result<Text, OutOfMemory>
 
 /// Adds the references to so many trains.
 fn push_references(text: &mut String, n: u32) -> Result<(), OutOfMemory>
-    requires { n ≤ 1000 }
+    requires { n ≤ MAX_SAMPLE }
     ensures { OnOk result (string_bytes text.new
         ≡ string_bytes text.old ++ flat_map train_reference (range_with_len 1 n)) }
 {
@@ -44,7 +45,7 @@ fn push_reference(text: &mut String, train: u32) -> Result<(), OutOfMemory>
 
 /// Adds the definitions of so many trains.
 fn push_trains(text: &mut String, n: u32) -> Result<(), OutOfMemory>
-    requires { n ≤ 1000 }
+    requires { n ≤ MAX_SAMPLE }
     ensures { OnOk result (string_bytes text.new
         ≡ string_bytes text.old ++ flat_map train_definitions (range_with_len 1 n)) }
 {

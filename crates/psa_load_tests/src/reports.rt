@@ -116,13 +116,13 @@ count 3
 mcub 0.812500000000 1.000000000000
 ";
 
-/// Kinds of faults, with what is told of each.
+/// Kinds of faults with a name, and what is told of each: no name of a fault of a text.
 #[rattlefmt::skip]
 const FAULTS: [(FaultKind, &str, &str); 23] = [
-    (FaultKind::LongFile, "", "file too long"),
-    (FaultKind::BadMarkup, "", "bad markup"),
-    (FaultKind::LongToken, "", "token too long"),
-    (FaultKind::BadNesting, "", "bad nesting"),
+    (FaultKind::LongFile, "a", "file too long"),
+    (FaultKind::BadMarkup, "gate", "bad markup"),
+    (FaultKind::LongToken, "G1", "token too long"),
+    (FaultKind::BadNesting, "F.C", "bad nesting"),
     (FaultKind::UnknownElement, "if", "unknown element if"),
     (FaultKind::BadAttribute, "role", "bad attribute role"),
     (FaultKind::BadNumber, "value", "bad number value"),

@@ -101,12 +101,14 @@ operation-held terms long Exponential es xs all c is = both-held terms long es x
 abbrev pub EachHolds : (Expression → Computed) → (Expression → Fraction) → Type 0
 EachHolds below exact = (e : Expression) (a : Ends) → below e ≡ Ok a → Holds a (exact e)
 
-and-parts : (one : Computed) (rest : Result (List Ends) NumberFault) (es : List Ends) → and_first one rest ≡ Ok es → (P : List Ends → Type 0) → ((a : Ends) (more : List Ends) → one ≡ Ok a → rest ≡ Ok more → P (a ∷ more)) → P es
+-- intervals that were put together: the first, and those of the rest
+pub and-parts : (one : Computed) (rest : Result (List Ends) NumberFault) (es : List Ends) → and_first one rest ≡ Ok es → (P : List Ends → Type 0) → ((a : Ends) (more : List Ends) → one ≡ Ok a → rest ≡ Ok more → P (a ∷ more)) → P es
 and-parts (Err found) rest es is P each = absurd (cc)
 and-parts (Ok a) (Err found) es is P each = absurd (cc)
 and-parts (Ok a) (Ok more) es is P each = let these : a ∷ more ≡ es = cc in subst P these (each a more refl refl)
 
-arguments-held : (below : Expression → Computed) (exact : Expression → Fraction) → EachHolds below exact → (arguments : List Expression) (es : List Ends) → all_computed (map below arguments) ≡ Ok es → AllZip Holds es (map exact arguments)
+-- the intervals of arguments hold their exact values
+pub arguments-held : (below : Expression → Computed) (exact : Expression → Fraction) → EachHolds below exact → (arguments : List Expression) (es : List Ends) → all_computed (map below arguments) ≡ Ok es → AllZip Holds es (map exact arguments)
 arguments-held below exact each [] es is = let these : [] ≡ es = cc in subst (λ (l : List Ends). AllZip Holds l []) these tt
 arguments-held below exact each (one ∷ more) es is =
     and-parts (below one) (all_computed (map below more)) es is (λ l. AllZip Holds l (exact one ∷ map exact more))

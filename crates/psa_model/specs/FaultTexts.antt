@@ -1,5 +1,5 @@
 -- The line that a fault of a model is told by. The texts are this project's own.
-use Rattle.std.specs.Prelude.{ℕ, List, ◌++◌, codes, decimal}
+use Rattle.std.specs.Prelude.{ℕ, Bool, true, false, List, [], ◌++◌, codes, decimal, if◌then◌else◌}
 use Rattle.psa_model.specs.declared.fault.FaultKind.{FaultKind}
 use Rattle.psa_model.specs.declared.fault.FaultKind.TheVariants.{LongFile, BadMarkup, LongToken, BadNesting, UnknownElement, BadAttribute, BadNumber, BadName, BadShape, Duplicate, Undefined, WrongKind, BadGroup, Cycle, TooDeep, LongPath, TooManyPaths, TooManyEvents, NoValue, ZeroDivisor, TooLarge, NegativeRate, NotProbability}
 use Rattle.psa_model.specs.declared.fault.ModelFault.{ModelFault}
@@ -30,9 +30,21 @@ fault_words TooLarge = codes "too large "
 fault_words NegativeRate = codes "negative rate "
 fault_words NotProbability = codes "not a probability "
 
--- the text of a fault: its words, and its name, which is empty where the kind prints none
+-- a fault of this kind tells a name: each but those of a text
+abbrev pub tells_name : FaultKind → Bool
+tells_name LongFile = false
+tells_name BadMarkup = false
+tells_name LongToken = false
+tells_name BadNesting = false
+tells_name _ = true
+
+-- the name that is told of a fault
+abbrev pub told_name : ModelFault → List ℕ
+told_name found = if tells_name found.kind then found.name else []
+
+-- the text of a fault: its words, and the name that is told
 abbrev pub fault_text : ModelFault → List ℕ
-fault_text found = fault_words found.kind ++ found.name
+fault_text found = fault_words found.kind ++ told_name found
 
 -- the line of a fault in the file of this name
 abbrev pub fault_line : List ℕ → ModelFault → List ℕ

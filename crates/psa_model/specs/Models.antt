@@ -147,7 +147,8 @@ pub record IsOrder (model : Model) : Type 0 where
 
 -- ---- size
 
--- the members that their group defines: they have its place
+-- The members that stand on their group's line, as those do that it defines. Which these are a model does not keep: one
+-- that is defined beside the group on that line gives the same model.
 abbrev pub is_at : Place → Option BasicEvent → Bool
 is_at place None = false
 is_at place (Some basic) = basic.place.file == place.file && basic.place.line == place.line
@@ -158,8 +159,8 @@ defined_by model group = length (filter (λ id. is_at group.place (slice_get mod
 abbrev pub defined_members : Model → ℕ
 defined_members model = sum (map (defined_by model) model.groups)
 
--- the number of definitions, group members and collected formulas; a basic event that its group defines counts as a
--- member alone
+-- the number of definitions, group members and collected formulas; a basic event on the line of a group that it is a
+-- member of counts as a member alone
 abbrev pub model_size : Model → ℕ
 model_size model =
     length model.gates + (length model.basics - defined_members model) + length model.houses + length model.parameters

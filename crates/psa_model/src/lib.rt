@@ -38,8 +38,8 @@ pub use ids::{
     InitiatingId, ParameterId, Place, RuleId, SequenceId, TreeId,
 };
 pub use limits::{
-    MAX_EVENTS, MAX_FILES, MAX_INSTRUCTIONS, MAX_MEMBERS, MAX_NESTING, MAX_PATHS, MAX_SIZE,
-    MAX_VALUE_LEVELS, MIN_MEMBERS,
+    MAX_EVENTS, MAX_FILES, MAX_INSTRUCTIONS, MAX_MEMBERS, MAX_NESTING, MAX_PATHS, MAX_SAMPLE,
+    MAX_SIZE, MAX_VALUE_LEVELS, MIN_MEMBERS, MIN_SAMPLE,
 };
 pub use model::{
     BasicEvent, EventTree, Factor, FaultTree, Functional, Gate, Group, GroupModel, House,

@@ -25,3 +25,9 @@ pub const MAX_SIZE: usize = 16_000_000;
 
 /// The greatest number of ranked events of a target.
 pub const MAX_EVENTS: usize = 2_048;
+
+/// The least size of the sample model.
+pub const MIN_SAMPLE: u64 = 2;
+
+/// The greatest size of the sample model.
+pub const MAX_SAMPLE: u64 = 1000;

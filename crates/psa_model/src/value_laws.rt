@@ -9,6 +9,7 @@ ghost use Rattle.psa_number.specs.Scaled.{Scaled};
 ghost use Rattle.psa_model.specs.declared.expanded.Expanded.{Expanded};
 ghost use Rattle.psa_model.specs.declared.expression.Expression.{Expression};
 ghost use Rattle.psa_model.specs.declared.model.Model.{Model};
+ghost use Rattle.psa_model.specs.Divisors.{divide_rightly, divides_rightly};
 ghost use Rattle.psa_model.specs.Values.{exact_value, interval_value, quantities_of, value_within, values_of};
 
 /// More levels than an expression's depth change neither its exact value nor its interval, and what is
@@ -34,6 +35,19 @@ pub fn intervals_hold_exact_values()
         → (mission : Scaled) (expanded : Expanded) (values : List Ends)
         → values_of mission expanded ≡ Ok values
         → AllZip Holds values (quantities_of terms mission expanded) }
+{}
+
+/// No interval rests on a quotient by 0: where an expression has an interval, each divisor in it, and in the
+/// parameters that it reaches, has an exact value other than 0, for every number of Taylor terms from the
+/// 160th power on. Where all events have an interval, so it is with their expressions.
+pub fn intervals_divide_by_no_zero()
+    ensures value { (n terms : ℕ) → last_term ≤ terms
+        → (mission : Scaled) (model : Model) (e : Expression) (a : Ends)
+        → interval_value n mission model e ≡ Ok a
+        → divides_rightly n terms mission model e ≡ true }
+    ensures events { (terms : ℕ) → last_term ≤ terms
+        → (mission : Scaled) (expanded : Expanded) (values : List Ends)
+        → values_of mission expanded ≡ Ok values → divide_rightly terms mission expanded ≡ true }
 {}
 
 /// Where all events have an interval, there is one for each, and it lies within 0 and 1.

@@ -4,3 +4,14 @@ pub mod SubstitutionLemmas
 pub mod LengthLemmas
 pub mod LoneLemmas
 pub mod TrainLemmas
+pub mod OccurrenceForms
+pub mod ExampleLemmas
+pub mod RenamingLemmas
+pub mod UnfoldingLemmas
+pub mod ApartLemmas
+pub mod QuotientLemmas
+pub mod QuotientTruth
+pub mod NamingLemmas
+pub mod PutLemmas
+pub mod ProductLemmas
+pub mod ChoiceLemmas

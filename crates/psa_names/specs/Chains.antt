@@ -12,14 +12,17 @@ use Rattle.psa_names.specs.Meanings.{Meaning, definition, of_group, members_of, 
 
 -- ---- the references of a definition
 
+-- the reference that an element is, if it is one, as a list
 abbrev pub own_reference : Option Reference → List Reference
 own_reference None = []
 own_reference (Some reference) = reference ∷ []
 
 abbrev mutual
+  -- the references of an element and of all that stands in it, in document order
   pub references_in : Outline → List Reference
   references_in (element reference inside) = own_reference reference ++ references_in_all inside
 
+  -- those of elements one behind the other
   pub references_in_all : Outlines → List Reference
   references_in_all none = []
   references_in_all (and one others) = references_in one ++ references_in_all others

@@ -41,9 +41,11 @@ pub record Reference : Type 0 where
   pub written : DraftReference
 
 mutual
+  -- an element of a body, by the reference that it is, if it is one, and by what stands in it
   pub data Outline : Type 0 where
     element : Option Reference → Outlines → Outline
 
+  -- elements one behind the other
   pub data Outlines : Type 0 where
     none : Outlines
     and : Outline → Outlines → Outlines

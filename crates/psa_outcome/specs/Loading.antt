@@ -1,6 +1,7 @@
 -- What is loaded of an input, and when it is not. This project's own.
 use Rattle.std.specs.Prelude.{◌≡◌, ◌⊎◌, ◌≤◌, ℕ, suc, List, Option, Result, Ok, Err, IsSomeAnd, map, length}
 use Rattle.psa_model.specs.declared.fault.ModelFault.{ModelFault}
+use Rattle.psa_model.specs.declared.limits.TheConstants.{MAX_FILES, MAX_SAMPLE, MIN_SAMPLE}
 use Rattle.psa_model.specs.declared.settings.Input.{Input}
 use Rattle.psa_model.specs.declared.settings.Input.TheVariants.{Files, Sample}
 use Rattle.psa_model.specs.declared.settings.Settings.{Settings}
@@ -16,10 +17,10 @@ use Rattle.psa_outcome.specs.Inputs.{Told, IsFirstFault, IsAnalysis}
 use Rattle.psa_model.specs.Ranks.{ranks_of}
 use Rattle.psa_model.specs.Report.{Analysis}
 
--- the settings that may be loaded: 1 to 16 files, or a sample of 2 to 1,000
+-- the inputs that may be loaded: at least one file and no more than a model has, or a sample of a size that there is
 abbrev pub IsInput : Input → Type 0
-IsInput (Files names) = (1 ≤ length names) × (length names ≤ 16)
-IsInput (Sample n) = (2 ≤ n) × (n ≤ 1000)
+IsInput (Files names) = (1 ≤ length names) × (length names ≤ MAX_FILES)
+IsInput (Sample n) = (MIN_SAMPLE ≤ n) × (n ≤ MAX_SAMPLE)
 
 -- the analysis that is loaded
 abbrev pub loaded_analysis : Loaded → Analysis

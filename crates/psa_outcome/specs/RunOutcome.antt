@@ -142,6 +142,7 @@ pub record WrittenRow (IsText : Texts) (settings : Settings) (run : Run) (line :
   pub silent : line ≡ []
   pub finished : Analysed settings run.told (λ analysis. Wrote IsText analysis run.before run.after)
 
+-- where the words give these settings, of such a program: each status with its row
 abbrev pub TextOutcome : Texts → Settings → Run → List ℕ → Status → Type 0
 TextOutcome IsText settings run line Done = WrittenRow IsText settings run line
 TextOutcome IsText settings run line BadModel = BadModelRow settings run line

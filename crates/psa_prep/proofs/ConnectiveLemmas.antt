@@ -2,6 +2,7 @@
 use Rattle.std.proofs.Common.{◌≡◌, ◌<◌, ◌≤◌, ◌+◌, ℕ, zero, suc, Bool, true, false, ◌==◌, List, [], ◌∷◌, ◌++◌, Some, cond, length, map, drop, get_or, nat_le, not, ◌&&◌, ◌||◌, refl, sym, ap, ◌∙◌, subst, arith}
 use Rattle.std.proofs.lemmas.Bool.Decides.{nat_tests}
 use Rattle.std.proofs.lemmas.List.{drop_all, length-map}
+use Rattle.std.proofs.lemmas.Option.{slice_get-get_or, slice_get_within, get_or_from_slice_get}
 use Rattle.std.specs.List.{slice_get, list_all}
 use Rattle.psa_model.specs.declared.formula.Formula.{Formula}
 use Rattle.psa_model.specs.Formulas.{count_true, of_one, of_two, is_same, truth_of_connective}
@@ -62,25 +63,10 @@ operand-reads context operands signs start now signs_of place pair f are g at th
 pub argument-at : (context : Context) (operands : Operands) (builder : Builder) (signs_of : ℕ → Signs) (place : ℕ) → AreOperands context operands builder signs_of → place < length operands.pairs.now → (f : Formula) × (slice_get operands.arguments.now place ≡ Some f)
 argument-at context operands builder signs_of place are l = let size = are.size in at-place operands.arguments.now place (omega arith)
 
-pub get-is : {A : Type 0} (xs : List A) (i : ℕ) (d : A) → i < length xs → slice_get xs i ≡ Some (get_or xs i d)
-get-is [] i d l = absurd (omega arith)
-get-is (x ∷ xs) zero d l = refl
-get-is (x ∷ xs) (suc i) d l = get-is xs i d (omega arith)
-
-pub get-within : {A : Type 0} (xs : List A) (i : ℕ) (x : A) → slice_get xs i ≡ Some x → i < length xs
-get-within [] i x e = absurd (cc)
-get-within (y ∷ ys) zero x e = omega arith
-get-within (y ∷ ys) (suc i) x e = let l : i < length ys = get-within ys i x e in omega arith
-
-pub get-or-is : {A : Type 0} (xs : List A) (i : ℕ) (x : A) → slice_get xs i ≡ Some x → x ≡ get_or xs i x
-get-or-is [] i x e = refl
-get-or-is (y ∷ ys) zero x e = cc
-get-or-is (y ∷ ys) (suc i) x e = get-or-is ys i x e
-
 -- the truths of one argument more
 pub truths-next : (context : Context) (s : ℕ → Bool) (arguments : List Formula) (i : ℕ) (f : Formula) → slice_get arguments i ≡ Some f → truths context s (drop i arguments) ≡ formula_truth (world_of context) (houses_of context) f s ∷ truths context s (drop (i + 1) arguments)
 truths-next context s arguments i f at =
-    ap (truths context s) (drop-next arguments i f (get-within arguments i f at) (get-or-is arguments i f at))
+    ap (truths context s) (drop-next arguments i f (slice_get_within arguments i f at) (sym (get_or_from_slice_get arguments i f f at)))
 
 -- ---- all, or some
 
@@ -138,7 +124,7 @@ gather-start context operands signs all i builder are past sound =
 pub gather-more : (context : Context) (operands : Operands) (signs : Signs) (all : Bool) (i : ℕ) (start now next : Builder) (pair operand result : Pair) → AreOperands context operands start (λ place. signs) → i < length operands.pairs.now → operand ≡ get_or operands.pairs.now i operand → GatheredSome context operands signs all (i + 1) start now pair → JoinsPairs signs all operand pair now next result → GatheredSome context operands signs all i start next result
 gather-more context operands signs all i start now next pair operand result are inside is so_far joins_them =
     let found = argument-at context operands start (λ place. signs) i are inside in
-    let there : slice_get operands.pairs.now i ≡ Some operand = get-is operands.pairs.now i operand inside ∙ ap Some (sym is) in
+    let there : slice_get operands.pairs.now i ≡ Some operand = slice_get-get_or operands.pairs.now i operand inside ∙ ap Some (sym is) in
     let reads_operand = operand-reads context operands signs start now (λ place. signs) i operand found.0 are so_far.grown found.1 there refl in
     made-then (world_of context) signs _ start now next result so_far.grown
     (joins_them (world_of context) (formula_truth (world_of context) (houses_of context) found.0) (λ s. gathers all (truths context s (drop (i + 1) operands.arguments.now))) (λ s. gathers all (truths context s (drop i operands.arguments.now))) so_far.sound reads_operand so_far.reads
@@ -149,7 +135,7 @@ gather-more context operands signs all i start now next pair operand result are 
 pub operand-stands : (context : Context) (operands : Operands) (start now : Builder) (signs_of : ℕ → Signs) (i : ℕ) (operand : Pair) → AreOperands context operands start signs_of → i < length operands.pairs.now → operand ≡ get_or operands.pairs.now i operand → (more : List _) × (nodes_of now ≡ more ++ nodes_of start) → Stands (nodes_of now) operand
 operand-stands context operands start now signs_of i operand are inside is g =
     let found = argument-at context operands start signs_of i are inside in
-    let there : slice_get operands.pairs.now i ≡ Some operand = get-is operands.pairs.now i operand inside ∙ ap Some (sym is) in
+    let there : slice_get operands.pairs.now i ≡ Some operand = slice_get-get_or operands.pairs.now i operand inside ∙ ap Some (sym is) in
     (operand-reads context operands (signs_of i) start now signs_of i operand found.0 are g found.1 there refl).there
 
 -- ---- the whole connective
@@ -207,8 +193,8 @@ imply-made context operands signs start next left right result two first second 
     let size = are.size in
     let a = argument-at context operands start _ 0 are (omega arith) in
     let b = argument-at context operands start _ 1 are (omega arith) in
-    let left_there : slice_get operands.pairs.now 0 ≡ Some left = get-is operands.pairs.now 0 left (omega arith) ∙ ap Some (sym first) in
-    let right_there : slice_get operands.pairs.now 1 ≡ Some right = get-is operands.pairs.now 1 right (omega arith) ∙ ap Some (sym second) in
+    let left_there : slice_get operands.pairs.now 0 ≡ Some left = slice_get-get_or operands.pairs.now 0 left (omega arith) ∙ ap Some (sym first) in
+    let right_there : slice_get operands.pairs.now 1 ≡ Some right = slice_get-get_or operands.pairs.now 1 right (omega arith) ∙ ap Some (sym second) in
     joins_them (world_of context) (λ s. not (formula_truth (world_of context) (houses_of context) a.0 s)) (formula_truth (world_of context) (houses_of context) b.0) (λ s. of_two (λ x y. not x || y) (truths context s operands.arguments.now)) sound
     (reads-swapped signs (formula_truth (world_of context) (houses_of context) a.0) (nodes_of start) left (are.read 0 a.0 left a.1 left_there))
     (are.read 1 b.0 right b.1 right_there)
@@ -231,8 +217,8 @@ differ-made context operands signs start mid now next left right one other resul
     let fb = formula_truth w (houses_of context) b.0 in
     let part_a = argument-part context operands start _ 0 a.0 are a.1 in
     let part_b = argument-part context operands start _ 1 b.0 are b.1 in
-    let left_there : slice_get operands.pairs.now 0 ≡ Some left = get-is operands.pairs.now 0 left (omega arith) ∙ ap Some (sym first) in
-    let right_there : slice_get operands.pairs.now 1 ≡ Some right = get-is operands.pairs.now 1 right (omega arith) ∙ ap Some (sym second) in
+    let left_there : slice_get operands.pairs.now 0 ≡ Some left = slice_get-get_or operands.pairs.now 0 left (omega arith) ∙ ap Some (sym first) in
+    let right_there : slice_get operands.pairs.now 1 ≡ Some right = slice_get-get_or operands.pairs.now 1 right (omega arith) ∙ ap Some (sym second) in
     let reads_left = are.read 0 a.0 left a.1 left_there in
     let reads_right = are.read 1 b.0 right b.1 right_there in
     let one_made = join_one w fa (λ s. not (fb s)) (λ s. fa s && not (fb s)) sound
@@ -257,8 +243,8 @@ differ-one context operands signs start mid left right one two first second are 
     let b = argument-at context operands start _ 1 are (omega arith) in
     let fa = formula_truth w (houses_of context) a.0 in
     let fb = formula_truth w (houses_of context) b.0 in
-    let left_there : slice_get operands.pairs.now 0 ≡ Some left = get-is operands.pairs.now 0 left (omega arith) ∙ ap Some (sym first) in
-    let right_there : slice_get operands.pairs.now 1 ≡ Some right = get-is operands.pairs.now 1 right (omega arith) ∙ ap Some (sym second) in (
+    let left_there : slice_get operands.pairs.now 0 ≡ Some left = slice_get-get_or operands.pairs.now 0 left (omega arith) ∙ ap Some (sym first) in
+    let right_there : slice_get operands.pairs.now 1 ≡ Some right = slice_get-get_or operands.pairs.now 1 right (omega arith) ∙ ap Some (sym second) in (
       λ s. fa s && not (fb s),
       join_one w fa (λ s. not (fb s)) (λ s. fa s && not (fb s)) sound
           (reads-any signs fa (nodes_of start) left (are.read 0 a.0 left a.1 left_there))
@@ -274,8 +260,8 @@ differ-other context operands signs start mid now left right one other two first
     let b = argument-at context operands start _ 1 are (omega arith) in
     let fa = formula_truth w (houses_of context) a.0 in
     let fb = formula_truth w (houses_of context) b.0 in
-    let left_there : slice_get operands.pairs.now 0 ≡ Some left = get-is operands.pairs.now 0 left (omega arith) ∙ ap Some (sym first) in
-    let right_there : slice_get operands.pairs.now 1 ≡ Some right = get-is operands.pairs.now 1 right (omega arith) ∙ ap Some (sym second) in
+    let left_there : slice_get operands.pairs.now 0 ≡ Some left = slice_get-get_or operands.pairs.now 0 left (omega arith) ∙ ap Some (sym first) in
+    let right_there : slice_get operands.pairs.now 1 ≡ Some right = slice_get-get_or operands.pairs.now 1 right (omega arith) ∙ ap Some (sym second) in
     let one_made = (differ-one context operands signs start mid left right one two first second are sound join_one).1 in (
       λ s. not (fa s) && fb s,
       join_other w (λ s. not (fa s)) fb (λ s. not (fa s) && fb s) one_made.sound

@@ -2,6 +2,7 @@
 use Rattle.std.proofs.Common.{inl, inr, ◌⊎◌, ◌≡◌, ◌<◌, ◌≤◌, ◌+◌, ◌-◌, ℕ, zero, suc, Bool, true, false, ◌==◌, List, [], ◌∷◌, ◌++◌, Some, cond, length, drop, get_or, slice_index_or, nat_le, not, ◌&&◌, ◌||◌, refl, sym, ap, ◌∙◌, subst, arith, length-append, add-one}
 use Rattle.std.proofs.lemmas.Bool.Decides.{nat_tests, eqb_tells}
 use Rattle.std.proofs.lemmas.List.{drop_all}
+use Rattle.std.proofs.lemmas.Option.{slice_get-get_or}
 use Rattle.std.specs.List.{slice_get}
 use Rattle.psa_model.specs.Formulas.{count_true}
 use Rattle.psa_model.specs.Parts.{Truth}
@@ -17,7 +18,7 @@ use Rattle.psa_prep.specs.Nodes.{nodes_of, IsBuilt}
 use Rattle.psa_prep.specs.Pairs.{swapped, swapped_pair, constant_pair}
 use Rattle.psa_prep.specs.Places.{Grown}
 use Rattle.psa_prep.specs.Sound.{formula_truth, IsSound, Made, JoinsPairs}
-use Rattle.psa_prep.proofs.ConnectiveLemmas.{argument-at, argument-part, count-part, count-same, operand-reads, get-is, truths-next}
+use Rattle.psa_prep.proofs.ConnectiveLemmas.{argument-at, argument-part, count-part, count-same, operand-reads, truths-next}
 use Rattle.psa_prep.proofs.ListLemmas.{slice_get-push}
 use Rattle.psa_prep.proofs.PlaceLemmas.{grown-self, grown-then}
 use Rattle.psa_prep.proofs.SoundLemmas.{simple-parts, joined-parts, made-then, reads-constant, reads-grown, reads-swapped, reads-any}
@@ -54,7 +55,7 @@ count-with context operands signs place count start now operand less result are 
     let w = world_of context in
     let found = argument-at context operands start (λ i. signs) place are inside in
     let f = formula_truth w (houses_of context) found.0 in
-    let there : slice_get operands.pairs.now place ≡ Some operand = get-is operands.pairs.now place operand inside ∙ ap Some (sym is) in (
+    let there : slice_get operands.pairs.now place ≡ Some operand = slice_get-get_or operands.pairs.now place operand inside ∙ ap Some (sym is) in (
       f,
       (
         (λ s. truths-next context s operands.arguments.now place found.0 found.1),
@@ -81,11 +82,11 @@ count-made context operands signs size place count start now next operand less s
 -- the pairs of the row after a place, for one less and for as many
 pub less-read : (context : Context) (operands : Operands) (signs : Signs) (place count : ℕ) (builder : Builder) (row : List Pair) → 0 < count → count < length row → IsWanted (length row) place count → IsRow context operands signs (length row) (place + 1) builder row → ReadsCount context operands signs (place + 1) builder (count - 1) (slice_index_or row (count - 1) (record { yes = 0; no = 0 }))
 less-read context operands signs place count builder row some inside wanted is_row =
-    is_row (count - 1) _ (get-is row (count - 1) (record { yes = 0; no = 0 }) (omega arith)) (omega arith)
+    is_row (count - 1) _ (slice_get-get_or row (count - 1) (record { yes = 0; no = 0 }) (omega arith)) (omega arith)
 
 pub same-read : (context : Context) (operands : Operands) (signs : Signs) (place count : ℕ) (builder : Builder) (row : List Pair) → count < length row → IsWanted (length row) place count → IsRow context operands signs (length row) (place + 1) builder row → ReadsCount context operands signs (place + 1) builder count (slice_index_or row count (record { yes = 0; no = 0 }))
 same-read context operands signs place count builder row inside wanted is_row =
-    is_row count _ (get-is row count (record { yes = 0; no = 0 }) inside) (omega arith)
+    is_row count _ (slice_get-get_or row count (record { yes = 0; no = 0 }) inside) (omega arith)
 
 -- one that is not wanted is left as it was
 pub count-kept : (context : Context) (operands : Operands) (signs : Signs) (size place count : ℕ) (builder : Builder) (pair : Pair) → IsSound (world_of context) builder → count + place + 1 < size → MakesCount context operands signs size place count builder builder pair

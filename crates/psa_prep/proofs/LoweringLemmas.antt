@@ -13,7 +13,7 @@ use Rattle.psa_model.specs.declared.model.TheConstants.{MAX_DEPTH}
 use Rattle.psa_model.specs.declared.model.Gate.{Gate}
 use Rattle.psa_model.specs.Parts.{Truth, Meets, argument}
 use Rattle.psa_model.specs.Truth.{within, state_of}
-use Rattle.psa_model.proofs.Levels.{arity-within}
+use Rattle.psa_model.proofs.Levels.{and-left, and-right, arity-within}
 use Rattle.psa_prep.specs.declared.builder.Builder.{Builder}
 use Rattle.psa_prep.specs.declared.builder.Known.{Known}
 use Rattle.psa_prep.specs.declared.builder.Prepared.{Prepared}
@@ -53,26 +53,19 @@ meets-as context f g is m = subst (λ h. Meets context.expanded.now context.targ
 
 -- ---- what was prepared before
 
+-- what covers a sign has it
 covered-by : (a b : Bool) → not (a && not b) ≡ true → a ≡ true → b ≡ true
 covered-by true true h e = refl
 covered-by true false h e = absurd (cc)
 covered-by false b h e = absurd (cc)
-
-and-first : (a b : Bool) → (a && b) ≡ true → a ≡ true
-and-first true b h = refl
-and-first false b h = absurd (cc)
-
-and-second : (a b : Bool) → (a && b) ≡ true → b ≡ true
-and-second true b h = h
-and-second false b h = absurd (cc)
 
 -- all that is asked for is known
 pub known-made : (w : World) (subject : Prepared) (f : Formula) (signs missing : Signs) (known : Known) (builder : Builder) → IsSound w builder → IsSubject w subject f → known ≡ known_of builder subject → missing ≡ without signs known.signs → (not missing.yes && not missing.no) ≡ true → Made w signs (formula_truth w (state_houses w (state_number subject)) f) builder builder known.pair
 known-made w subject f signs missing known builder sound is known_is missing_is none =
     made-there w signs _ builder known.pair sound
     (reads-fewer known.signs signs _ (nodes_of builder) known.pair
-    (λ asked. covered-by signs.yes known.signs.yes (sym (ap (λ m. not m.yes) missing_is) ∙ and-first (not missing.yes) (not missing.no) none) asked)
-    (λ asked. covered-by signs.no known.signs.no (sym (ap (λ m. not m.no) missing_is) ∙ and-second (not missing.yes) (not missing.no) none) asked)
+    (λ asked. covered-by signs.yes known.signs.yes (sym (ap (λ m. not m.yes) missing_is) ∙ and-left (not missing.yes) (not missing.no) none) asked)
+    (λ asked. covered-by signs.no known.signs.no (sym (ap (λ m. not m.no) missing_is) ∙ and-right (not missing.yes) (not missing.no) none) asked)
     (subst (λ (k : Known). Reads k.signs (formula_truth w (state_houses w (state_number subject)) f) (nodes_of builder) k.pair) (sym known_is) (sound.right subject f is)))
 
 with-yes : (P : ℕ → Type 0) (known missing : Bool) (old new : ℕ) → (known || missing) ≡ true → (known ≡ true → P old) → (missing ≡ true → P new) → P (cond missing new old)

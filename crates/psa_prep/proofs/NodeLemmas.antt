@@ -1,7 +1,6 @@
 -- The truths of the nodes of a graph while it grows.
 use Rattle.std.proofs.Common.{◌≡◌, inl, inr, ◌<◌, ◌≤◌, ◌+◌, ℕ, Bool, true, false, List, [], ◌∷◌, ◌++◌, length, Some, ◌&&◌, ◌||◌, refl, sym, ap, ◌∙◌, subst, arith, ne_eqb, eq-eqb, eqb-true, true≢false, length-append}
 use Rattle.psa_model.proofs.Levels.{and-left, and-right}
-use Rattle.std.proofs.lemmas.Bool.Decides.{eqb_tells}
 use Rattle.psa_graph.specs.declared.graph.GraphNode.{GraphNode}
 use Rattle.psa_graph.specs.declared.graph.GraphNode.TheVariants.{Constant, Literal, And, Or}
 use Rattle.psa_graph.specs.contracts.graph.GraphNodePartialEq.TheImpl as the_impl
@@ -9,7 +8,8 @@ use Rattle.psa_graph.specs.Truths.{truth_at, node_truth, IsNodeBehind, AreChildr
 use Rattle.psa_model.specs.Parts.{Truth}
 use Rattle.psa_prep.specs.declared.builder.Builder.{Builder}
 use Rattle.psa_prep.specs.Nodes.{nodes_of, IsBuilt, Placed, IsBlank}
-use Rattle.psa_prep.specs.Places.{older_at, IsAdded, Grown}
+use Rattle.psa_graph.proofs.PlaceTruthLemmas.{truth-cons, node-same, found-behind, truth-found}
+use Rattle.psa_prep.specs.Places.{IsAdded, Grown}
 use Rattle.psa_prep.proofs.PlaceLemmas.{added-grown, grown-length}
 
 -- the derived comparison of nodes
@@ -33,13 +33,9 @@ node-exact (And a b) _ h = absurd (cc)
 node-exact (Or a b) (Or c d) h = let left = eqb-true a c (and-left _ _ h) in let right = eqb-true b d (and-right _ _ h) in λ i. Or (left i) (right i)
 node-exact (Or a b) _ h = absurd (cc)
 
-truth-cons : (n : GraphNode) (older : List GraphNode) (place : ℕ) (s : ℕ → Bool) → place < length older → truth_at (n ∷ older) place s ≡ truth_at older place s
-truth-cons n older place s l = rw (ne_eqb place (length older) (λ e. omega arith)) refl
-
-truth-newest : (n : GraphNode) (older : List GraphNode) (s : ℕ → Bool) → truth_at (n ∷ older) (length older) s ≡ node_truth (truth_at older) n s
-truth-newest n older s = rw (eq-eqb (length older) (length older) refl) refl
-
-truth-more : (more before : List GraphNode) (place : ℕ) (s : ℕ → Bool) → place < length before → truth_at (more ++ before) place s ≡ truth_at before place s
+-- an older place reads the same when many nodes come in
+truth-more : (more before : List GraphNode) (place : ℕ) (s : ℕ → Bool) → place < length before
+    → truth_at (more ++ before) place s ≡ truth_at before place s
 truth-more [] before place s l = refl
 truth-more (n ∷ more) before place s l =
     let size : length (more ++ before) ≡ length more + length before = length-append more before in
@@ -48,51 +44,6 @@ truth-more (n ∷ more) before place s l =
 -- a place reads the same when nodes come in
 pub truth-grown : (before now : List GraphNode) → Grown before now → (place : ℕ) → place < length before → (s : ℕ → Bool) → truth_at now place s ≡ truth_at before place s
 truth-grown before now g place l s = ap (λ ns. truth_at ns place s) g.1 ∙ truth-more g.0 before place s l
-
--- a node reads the same over readings that agree on the places that it names
-node-same : (f g : ℕ → Truth) (width bound : ℕ) (n : GraphNode) (s : ℕ → Bool) → IsNodeBehind width bound n → ((p : ℕ) → p < bound → f p s ≡ g p s) → node_truth f n s ≡ node_truth g n s
-node-same f g width bound (Constant b) s behind same = refl
-node-same f g width bound (Literal rank occurs) s behind same = refl
-node-same f g width bound (And left right) s behind same = let a = same left behind.0 in let b = same right behind.1 in λ i. a i && b i
-node-same f g width bound (Or left right) s behind same = let a = same left behind.0 in let b = same right behind.1 in λ i. a i || b i
-
-behind-more : (width bound more : ℕ) (n : GraphNode) → bound ≤ more → IsNodeBehind width bound n → IsNodeBehind width more n
-behind-more width bound more (Constant b) l h = tt
-behind-more width bound more (Literal rank occurs) l h = h
-behind-more width bound more (And left right) l h = (omega arith, omega arith)
-behind-more width bound more (Or left right) l h = (omega arith, omega arith)
-
--- the node at a place names earlier places
-found-behind : (width : ℕ) (ns : List GraphNode) (place : ℕ) (n : GraphNode) → AreChildrenFirst width ns → older_at ns place ≡ Some n → (place < length ns) × IsNodeBehind width place n
-found-behind width [] place n first e = absurd (cc)
-found-behind width (m ∷ older) place n first e = elim (eqb_tells place (length older)) [
-  | inl p ↦
-      let is : Some m ≡ Some n = rw p.0 at e in
-      let same : m ≡ n = cc in
-      (omega (arith, p.1), subst (λ (k : ℕ). IsNodeBehind width k n) (sym p.1) (subst (λ (k : GraphNode). IsNodeBehind width (length older) k) same first.0))
-  | inr p ↦
-      let there = found-behind width older place n first.1 (rw p.0 at e) in
-      let l : place < length older = there.0 in
-      (omega arith, there.1)
-]
-
--- .. and reads as itself over the whole list
-pub truth-found : (width : ℕ) (ns : List GraphNode) (place : ℕ) (n : GraphNode) → AreChildrenFirst width ns → older_at ns place ≡ Some n → (s : ℕ → Bool) → truth_at ns place s ≡ node_truth (truth_at ns) n s
-truth-found width [] place n first e s = absurd (cc)
-truth-found width (m ∷ older) place n first e s = elim (eqb_tells place (length older)) [
-  | inl p ↦
-      let is : Some m ≡ Some n = rw p.0 at e in
-      let same : m ≡ n = cc in
-      ap (λ k. truth_at (m ∷ older) k s) p.1 ∙ truth-newest m older s
-      ∙ node-same (truth_at older) (truth_at (m ∷ older)) width (length older) m s first.0 (λ q l. sym (truth-cons m older q s l))
-      ∙ ap (λ k. node_truth (truth_at (m ∷ older)) k s) same
-  | inr p ↦
-      let e' = rw p.0 at e in
-      let there = found-behind width older place n first.1 e' in
-      let inside : place < length older = there.0 in
-      truth-cons m older place s inside ∙ truth-found width older place n first.1 e' s
-      ∙ node-same (truth_at older) (truth_at (m ∷ older)) width place n s there.1 (λ q l. sym (truth-cons m older q s (omega arith)))
-]
 
 -- a graph that grew
 pub built-grown : (before now : Builder) → Grown (nodes_of before) (nodes_of now) → AreChildrenFirst now.width (nodes_of now) → IsBuilt before → IsBuilt now

@@ -4,6 +4,7 @@ use Rattle.std.proofs.lemmas.Bool.Decides.{nat_tests, leb_tells}
 use Rattle.std.proofs.lemmas.List.{take_all, drop_all, append-nil}
 use Rattle.std.proofs.lemmas.List.Folds.{list_any-append, list_all-append}
 use Rattle.std.proofs.Math.Seq.{take-append_seam}
+use Rattle.std.proofs.lemmas.Option.{slice_get-get_or}
 use Rattle.std.specs.List.{slice_get, list_all, list_any}
 use Rattle.psa_model.specs.declared.formula.Formula.{Formula}
 use Rattle.psa_model.specs.declared.ids.FormulaId.{FormulaId}
@@ -29,7 +30,6 @@ use Rattle.psa_prep.specs.Places.{Grown}
 use Rattle.psa_prep.specs.Sound.{IsSubject, state_houses, state_number, formula_truth, AreParts, IsSound, Made, JoinsPairs}
 use Rattle.psa_prep.specs.States.{AreStates, IsSet}
 use Rattle.psa_prep.specs.Paths.{task_world, yes_signs, IsStarted, ArePaths, IsPath, PathSoFar, Stepped, MadeAt, path_truth, paths_truth}
-use Rattle.psa_prep.proofs.ConnectiveLemmas.{get-is}
 use Rattle.psa_prep.proofs.EventLemmas.{between-take}
 use Rattle.psa_prep.proofs.ListLemmas.{take-next, drop-next, all-at}
 use Rattle.psa_prep.proofs.PlaceLemmas.{grown-self, grown-then, grown-length}
@@ -218,7 +218,7 @@ path-of task paths i path are inside is = record {
   paths = paths;
   at_place = i;
   is = are.is;
-  found = get-is paths i path inside ∙ ap Some (sym is);
+  found = slice_get-get_or paths i path inside ∙ ap Some (sym is);
   stand = all-at (λ p. list_all (step_stands task.expanded.now.model) p) paths i path are.stand inside is;
 }
 

@@ -5,7 +5,9 @@ use Rattle.std.proofs.lemmas.Bool.{cases_Bool}
 use Rattle.std.proofs.lemmas.Bool.Decides.{eqb_tells}
 use Rattle.std.specs.List.{list_any}
 use Rattle.indexmap.specs.IndexSet.{insert_key}
-use Rattle.psa_prep.specs.Places.{older_at, IsAdded, Grown}
+use Rattle.psa_graph.specs.Truths.{older_at}
+use Rattle.psa_graph.proofs.PlaceTruthLemmas.{reversed}
+use Rattle.psa_prep.specs.Places.{IsAdded, Grown}
 use Rattle.psa_prep.proofs.ListLemmas.{slice_get-push}
 
 -- what holds of an `Ok`
@@ -13,19 +15,13 @@ pub if-ok : {T E : Type 0} (r : Result T E) (P Q : T → Type 0) → ((x : T) �
 if-ok (Ok x) P Q f h = f x h
 if-ok (Err e) P Q f h = h
 
-slice_get-reverse : {A : Type 0} (xs : List A) (i : ℕ) → slice_get (reverse xs) i ≡ older_at xs i
-slice_get-reverse [] i = refl
-slice_get-reverse (x ∷ older) i =
-    rw (reverse-append (x ∷ []) older) (slice_get-push (reverse older) x i ∙ (λ j. if test j then Some x else slice_get-reverse older i j))
-  where
-    test : (i == length (reverse older)) ≡ (i == length older)
-    test = ap (λ n. i == n) (length-reverse older)
-
 -- the item by the number of older ones is that at the index
 pub older_at-key : {A : Type 0} (keys : List A) (i : ℕ) → older_at (reverse keys) i ≡ slice_get keys i
-older_at-key keys i = sym (slice_get-reverse (reverse keys) i) ∙ ap (λ l. slice_get l i) (reverse-reverse keys)
+older_at-key keys i = sym (reversed (reverse keys) i) ∙ ap (λ l. slice_get l i) (reverse-reverse keys)
 
-any-at : {A : Type 0} (p : A → Bool) (xs : List A) (i : ℕ) (x : A) → slice_get xs i ≡ Some x → p x ≡ true → list_any p xs ≡ true
+-- an item that passes a test is found by it
+any-at : {A : Type 0} (p : A → Bool) (xs : List A) (i : ℕ) (x : A)
+    → slice_get xs i ≡ Some x → p x ≡ true → list_any p xs ≡ true
 any-at p [] i x e h = absurd (cc)
 any-at p (y ∷ ys) zero x e h = let same : y ≡ x = cc in rw (ap p same ∙ h) refl
 any-at p (y ∷ ys) (suc i) x e h = elim (cases_Bool (p y)) [

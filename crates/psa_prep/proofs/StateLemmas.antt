@@ -14,7 +14,8 @@ use Rattle.std.proofs.lemmas.List.{length-map}
 use Rattle.psa_model.proofs.Levels.{and-left, and-right}
 use Rattle.psa_prep.specs.declared.states.Changes.{Changes}
 use Rattle.psa_prep.specs.contracts.states.ChangesPartialEq.TheImpl as the_impl
-use Rattle.psa_prep.specs.Places.{older_at, Grown}
+use Rattle.psa_graph.specs.Truths.{older_at}
+use Rattle.psa_prep.specs.Places.{Grown}
 use Rattle.psa_prep.specs.States.{in_parts, is_blank, is_changed, flipped, with_changes, houses_at, AreEarlier, AreShared, AreBelow, AreStates, HasParts, IsMade, IsJoined, IsWith, IsSet}
 use Rattle.psa_prep.proofs.PlaceLemmas.{added-grown, grown-self, grown-then}
 

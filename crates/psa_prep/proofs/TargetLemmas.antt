@@ -71,11 +71,7 @@ started-blank task builder blank =
       };
     }
 
--- a target by its form
-pub top-stands : (model : Model) (target : Target) (gate : GateId) → target ≡ TopEvent gate → target_stands model target ≡ true → gate.0 < length model.gates
-top-stands model target gate is stands =
-    let there = subst (λ (t : Target). target_stands model t ≡ true) is stands in grind (arith, nat_tests)
-
+-- the paths of a sequence stand
 pub paths-stand : (task : Task) (initiating : InitiatingId) (sequence : SequenceId) (paths items : List (List PathStep)) → task.target.now ≡ Sequence initiating sequence paths → items ≡ paths → target_stands task.expanded.now.model task.target.now ≡ true → ArePaths task items
 paths-stand task initiating sequence paths items is same stands = record {
   initiating = initiating;

@@ -1,6 +1,7 @@
 -- A walk over formulas gives the ranks of a target: its events by the first places of their visits.
 use Rattle.std.proofs.Common.{◌≡◌, ◌≤◌, ◌<◌, ◌+◌, ◌-◌, ℕ, suc, Bool, true, false, List, [], ◌∷◌, ◌++◌, Option, Some, None, length, map, take, drop, get_or, cond, nat_eq, eqb, ◌||◌, ◌&&◌, Result, Ok, Err, refl, ap, sym, ◌∙◌, subst, arith}
 use Rattle.std.proofs.lemmas.Bool.Decides.{nat_tests}
+use Rattle.std.proofs.lemmas.Grind.{flat_map-append}
 use Rattle.std.proofs.lemmas.List.{take_all, take-append-drop, length-map, length-append, map-append}
 use Rattle.std.specs.List.{slice_get, list_all, list_any, flat_map}
 use Rattle.std.specs.HashSet.{HashSet, contains, IsEmpty}
@@ -31,7 +32,7 @@ use Rattle.psa_prep.specs.declared.ranking.Ranking.{Ranking}
 use Rattle.psa_prep.specs.declared.ranking.Stop.{Stop}
 use Rattle.psa_prep.specs.declared.ranking.Stop.TheVariants as stop
 use Rattle.psa_prep.specs.Ranking.{Ends, is_in, ranked, numbers, Agrees, AllEntered, AllCollected, IsSound, RanksMore, RanksList, Ranked, Exceeds, ExceedsAt, option_visits, step_visits}
-use Rattle.psa_prep.proofs.ListLemmas.{at-place, take-next, flat-push, flat-append, all-split}
+use Rattle.psa_prep.proofs.ListLemmas.{at-place, take-next, flat-push, all-split}
 use Rattle.psa_prep.proofs.RankLemmas.{is_in-push, ranked-append, all-stay, all-ranked, ranked-known, ranked-from-none, ranked-longer, ranked-new}
 
 -- what holds of a walk that ends, and of one that stops
@@ -244,7 +245,7 @@ exceeds-at f xs i x before now inside is ranks many =
     ∙ sym (ranked-append (numbers before) (flat_map f (take i xs)) (f x))
     ∙ ap (ranked (numbers before)) (sym (ap (flat_map f) (take-next xs i x inside is) ∙ flat-push f (take i xs) x)) in
     let whole : flat_map f xs ≡ flat_map f (take (i + 1) xs) ++ flat_map f (drop (i + 1) xs) =
-    ap (flat_map f) (sym (take-append-drop (i + 1) xs)) ∙ flat-append f (take (i + 1) xs) (drop (i + 1) xs) in
+    ap (flat_map f) (sym (take-append-drop (i + 1) xs)) ∙ flat_map-append f (take (i + 1) xs) (drop (i + 1) xs) in
     let longer : length (ranked (numbers before) (flat_map f (take (i + 1) xs))) ≤ length (ranked (numbers before) (flat_map f xs)) =
     subst (λ (es : List ℕ). length (ranked (numbers before) (flat_map f (take (i + 1) xs))) ≤ length (ranked (numbers before) es)) (sym whole)
     (ranked-longer (numbers before) (flat_map f (take (i + 1) xs)) (flat_map f (drop (i + 1) xs))) in

@@ -1,9 +1,6 @@
 -- Items by the number of older ones, in a list that is newest first.
-use Rattle.std.specs.Prelude.{◌≡◌, ◌==◌, ◌⊎◌, ◌++◌, ℕ, List, [], ◌∷◌, Option, Some, None, length, if◌then◌else◌}
-
-abbrev pub older_at : {A : Type 0} → List A → ℕ → Option A
-older_at [] place = None
-older_at (x ∷ older) place = if place == length older then Some x else older_at older place
+use Rattle.std.specs.Prelude.{◌≡◌, ◌⊎◌, ◌++◌, ℕ, List, ◌∷◌, Some, length}
+use Rattle.psa_graph.specs.Truths.{older_at}
 
 -- the item is at the place, and it came in or was there
 abbrev pub IsAdded : {A : Type 0} → A → List A → List A → ℕ → Type 0

@@ -4,7 +4,8 @@ use Rattle.std.specs.Prelude.{◌≡◌, ◌==◌, ◌≤◌, ◌<◌, ◌/◌, 
 use Rattle.std.specs.Prelude.{List, [], ◌∷◌, Some, if◌then◌else◌}
 use Rattle.std.specs.List.{slice_set}
 use Rattle.psa_prep.specs.declared.states.Changes.{Changes}
-use Rattle.psa_prep.specs.Places.{older_at, Grown, IsAdded}
+use Rattle.psa_graph.specs.Truths.{older_at}
+use Rattle.psa_prep.specs.Places.{Grown, IsAdded}
 
 -- whether the house event is in the set of the parts: the first one, or a further one in the left or the right part
 abbrev pub in_parts : (ℕ → ℕ → Bool) → Changes → ℕ → Bool

@@ -75,9 +75,18 @@ impl Totals {
             (exact_min_cut (map
             (exact_bound (quantities_of terms mission expanded) ranks) products)) }
     {
+        self.take_sum(bound);
+        self.rest = rest_with(self.rest, bound);
+    }
+
+    /// Takes one more product with this bound into the count and the rare-event sum alone, where nobody asks for the
+    /// min-cut upper bound.
+    pub fn take_sum(&mut self, bound: Interval)
+        requires { IsInUnit bound }
+        ensures { self.new ≡ record (taken self.old bound) { rest = self.old.rest } }
+    {
         self.count = (self.count + 1).min(MAX_COUNT);
         self.rare_event = add_in_unit(self.rare_event, bound);
-        self.rest = rest_with(self.rest, bound);
     }
 }
 

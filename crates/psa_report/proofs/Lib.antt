@@ -3,3 +3,4 @@ pub mod JoinedLemmas
 pub mod LineLemmas
 pub mod PartLemmas
 pub mod HeadLemmas
+mod UnitTextLemmas

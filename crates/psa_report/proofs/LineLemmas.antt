@@ -1,5 +1,5 @@
 -- The line of a product in the parts in which it is made, and what a line keeps.
-use Rattle.std.proofs.Common.{◌≡◌, ◌∙◌, ◌+◌, ◌<◌, ◌≤◌, ℕ, zero, suc, List, [], ◌∷◌, ◌++◌, Option, Some, None, Result, Ok, Err, true, false, codes, drop, get_or, set, take, length, refl, sym, ap, ap₂, subst, append_assoc, append-nil, length-append, arith, if◌then◌else◌}
+use Rattle.std.proofs.Common.{◌≡◌, ◌∙◌, ◌+◌, ◌<◌, ◌≤◌, ℕ, zero, suc, List, [], ◌∷◌, ◌++◌, Option, Some, None, Result, Ok, Err, true, false, codes, drop, get_or, set, take, length, refl, sym, ap, ap₂, append_assoc, append-nil, length-append, arith, if◌then◌else◌}
 use Rattle.std.proofs.lemmas.Grind.{common_steps}
 use Rattle.std.proofs.lemmas.List.{drop_all, drop_more, get_or-take, length-map, length-set, length-take-le, take-append-drop, take-take, take_more_set}
 use Rattle.std.proofs.Math.Seq.{take-append_seam, drop-append_seam}

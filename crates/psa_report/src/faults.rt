@@ -1,5 +1,5 @@
 ghost use Rattle.std.specs.Prelude.{◌≡◌};
-ghost use Rattle.psa_model.specs.FaultTexts.{fault_line, fault_words};
+ghost use Rattle.psa_model.specs.FaultTexts.{fault_line, fault_words, tells_name, told_name};
 ghost use Rattle.psa_report.specs.Pieces.{Writes};
 
 use crate::WriteFault;
@@ -40,6 +40,30 @@ fn words_of(kind: FaultKind) -> &'static str
     }
 }
 
+/// Whether a fault of this kind tells a name: each but those of a text.
+fn is_named(kind: FaultKind) -> bool
+    ensures { result ≡ tells_name kind }
+{
+    match kind {
+        FaultKind::LongFile => false,
+        FaultKind::BadMarkup => false,
+        FaultKind::LongToken => false,
+        FaultKind::BadNesting => false,
+        _ => true,
+    }
+}
+
+/// The name that is told of a fault.
+fn name_of(fault: &ModelFault) -> &str
+    ensures { result.now ≡ told_name fault.now }
+{
+    if is_named(fault.kind) {
+        fault.name.as_str()
+    } else {
+        ""
+    }
+}
+
 /// Writes the line that tells a fault of a model in the file of a name: the file, the line, and the text of its
 /// kind.
 /// Refuses only where the sink does; a prefix of the line was written then.
@@ -54,6 +78,6 @@ pub fn write_fault<S: Sink>(err: &mut S, fault: &ModelFault, file: &Text) -> Res
         err,
         &[":", line.format(fault.line), ": ", words_of(fault.kind)],
     )?;
-    put_one(err, fault.name.as_str())?;
+    put_one(err, name_of(fault))?;
     put_one(err, "\n")
 }

@@ -12,6 +12,7 @@ mod pieces;
 mod products;
 mod targets;
 mod totals;
+mod units;
 
 pub use error::WriteFault;
 pub use faults::write_fault;

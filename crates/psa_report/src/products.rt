@@ -8,7 +8,8 @@ ghost use Rattle.psa_report.specs.Pieces.{Writes};
 use crate::WriteFault;
 use crate::intervals::put_interval;
 use crate::names::put_ranked;
-use crate::pieces::{put_all, put_one};
+use crate::pieces::{put_all, put_bytes, put_one};
+use crate::units::{is_in_unit, spaced_units};
 use itoa::Buffer;
 use psa_model::{EventNumber, Expanded, Literal, Product, Ranks};
 use psa_number::Interval;
@@ -53,8 +54,19 @@ fn put_bound<S: Sink>(out: &mut S, bound: Option<Interval>) -> Result<(), WriteF
     }
 }
 
-/// Writes a bound behind a space.
+/// Writes a bound behind a space; in one piece where it is within 0 and 1.
 pub(crate) fn put_some_bound<S: Sink>(out: &mut S, bound: Interval) -> Result<(), WriteFault>
+    ensures { Writes (S.written out.old) (S.written out.new) (S.faults out.old) (S.faults out.new)
+        (codes " " ++ ends_text bound) result }
+{
+    if is_in_unit(bound.lo) && is_in_unit(bound.hi) {
+        return put_bytes(out, &spaced_units(bound.lo, bound.hi));
+    }
+    put_wide_bound(out, bound)
+}
+
+/// Writes any bound behind a space.
+fn put_wide_bound<S: Sink>(out: &mut S, bound: Interval) -> Result<(), WriteFault>
     ensures { Writes (S.written out.old) (S.written out.new) (S.faults out.old) (S.faults out.new)
         (codes " " ++ ends_text bound) result }
 {

@@ -1,5 +1,5 @@
 -- Intervals of ranked events, the totals of products, and the listing of those that the cutoff keeps.
-use Rattle.std.proofs.Common.{◌≡◌, ◌+◌, ◌↔◌, codes, flat_map, ℕ, ℤ, Bool, true, List, [], ◌∷◌, ◌++◌, map, get_or, length, min, length-append, append_assoc, append-nil, Option, Some, None, option_and_then, unwrap_or, filter, IfSome, refl, sym, ap, subst, ◌∙◌, inl, inr, arith}
+use Rattle.std.proofs.Common.{◌≡◌, ◌+◌, ◌↔◌, codes, flat_map, ℕ, ℤ, Bool, true, false, List, [], ◌∷◌, ◌++◌, map, get_or, length, min, length-append, append_assoc, append-nil, Option, Some, None, option_and_then, unwrap_or, filter, IfSome, refl, sym, ap, subst, ◌∙◌, inl, inr, arith, if◌then◌else◌}
 use Rattle.std.specs.Fmt.{decimal}
 use Rattle.std.specs.Option.{option_map, option_map_or}
 use Rattle.std.specs.List.{All, slice_get}
@@ -25,11 +25,11 @@ use Rattle.psa_model.specs.declared.targets.Target.{Target}
 use Rattle.psa_model.specs.Literals.{literals_of}
 use Rattle.psa_model.specs.Quantities.{at_rank, bound_of, is_kept, rare_event_of, zero_ends, one_ends}
 use Rattle.psa_model.specs.Ranks.{ranks_of}
-use Rattle.psa_model.specs.Report.{Analysis, IsProductOf, is_kept_in, section_text, target_line, total_lines}
+use Rattle.psa_model.specs.Report.{Analysis, IsProductOf, count_line, is_kept_in, section_text, target_line, total_line, total_lines, totals_text}
 use Rattle.psa_products.specs.Products.{product_of}
 use Rattle.psa_products.specs.Sums.{Sums, rest_of, taken}
 use Rattle.psa_sections.specs.ProductNodes.{analysis_by}
-use Rattle.psa_sections.specs.Writing.{bound_by, line_by, reaches, text_by, totals_by}
+use Rattle.psa_sections.specs.Writing.{AreAsked, bound_by, line_by, reaches, text_by, totals_by}
 
 -- ---- intervals
 
@@ -152,30 +152,67 @@ module _ (keeps : List ℕ → Bool) where
 
 -- ---- the products that are written
 
--- The products of a listing up to the rest are taken into the totals.
-pub record AreDone (values : Option (List Ends)) (ranks : List EventNumber) (all rest : List (List ℕ)) (sums : Sums) : Type 0 where
+-- the same totals are those that are asked for
+pub asked-same : (settings : Settings) (sums totals : Sums) → sums ≡ totals → AreAsked settings sums totals
+asked-same settings sums totals same = record {
+  count = ap (λ (s : Sums). s.count) same;
+  rare_event = ap (λ (s : Sums). s.rare_event) same;
+  rest = λ asked. ap (λ (s : Sums). s.rest) same;
+}
+
+-- one bound more, where totals are those that are asked for
+asked-more : (settings : Settings) (sums more totals : Sums) (bound : Ends) → AreAsked settings sums totals → AreAsked settings more (taken sums bound)
+    → AreAsked settings more (taken totals bound)
+asked-more settings sums more totals bound are takes = record {
+  count = takes.count ∙ ap (λ (n : ℕ). min (n + 1) MAX_COUNT) are.count;
+  rare_event = takes.rare_event ∙ ap (λ (sum : Ends). unit_sum_ends sum bound) are.rare_event;
+  rest = λ asked. takes.rest asked ∙ ap (λ (rest : Ends). unit_product_ends rest (complement_ends bound)) (are.rest asked);
+}
+
+-- a total that is written only where it is asked for
+line-asked : (is_asked : Bool) (line : Ends → List ℕ) (sum total : Ends) → (is_asked ≡ true → sum ≡ total)
+    → (if is_asked then line (complement_ends sum) else []) ≡ (if is_asked then line (complement_ends total) else [])
+line-asked true line sum total same = ap (λ (e : Ends). line (complement_ends e)) (same refl)
+line-asked false line sum total same = refl
+
+-- the text of totals is that of those that are asked for
+pub text-asked : (settings : Settings) (sums totals : Sums) → AreAsked settings sums totals
+    → totals_text settings sums.count sums.rare_event (complement_ends sums.rest) ≡ totals_text settings totals.count totals.rare_event (complement_ends totals.rest)
+text-asked settings sums totals are =
+    ap (λ (n : ℕ). totals_text settings n sums.rare_event (complement_ends sums.rest)) are.count
+    ∙ ap (λ (sum : Ends). totals_text settings totals.count sum (complement_ends sums.rest)) are.rare_event
+    ∙ ap (λ (last : List ℕ). count_line totals.count ++ ((if settings.rare_event then total_line (codes "rare-event") totals.rare_event else []) ++ last))
+    (line-asked settings.mcub (total_line (codes "mcub")) sums.rest totals.rest are.rest)
+
+-- The products of a listing up to the rest are taken into the totals that the settings ask for.
+pub record AreDone (settings : Settings) (values : Option (List Ends)) (ranks : List EventNumber) (all rest : List (List ℕ)) (sums : Sums) : Type 0 where
   pub done : List (List ℕ)
   pub splits : done ++ rest ≡ all
-  pub are_totals : sums ≡ totals_by values ranks done
+  pub are_totals : AreAsked settings sums (totals_by values ranks done)
 
 -- at first none is
-pub done-none : (values : Option (List Ends)) (ranks : List EventNumber) (all : List (List ℕ)) (sums : Sums) → sums ≡ totals_by values ranks [] → AreDone values ranks all all sums
-done-none values ranks all sums are = record { done = []; splits = refl; are_totals = are }
+pub done-none : (settings : Settings) (values : Option (List Ends)) (ranks : List EventNumber) (all : List (List ℕ)) (sums : Sums) → sums ≡ totals_by values ranks []
+    → AreDone settings values ranks all all sums
+done-none settings values ranks all sums are = record { done = []; splits = refl; are_totals = asked-same settings sums (totals_by values ranks []) are }
 
 -- one product more
-pub done-more : (values : Option (List Ends)) (ranks : List EventNumber) (all now rest : List (List ℕ)) (sums more : Sums) (product : List ℕ) (counted : Ends)
-    → AreDone values ranks all now sums → now ≡ product ∷ rest → counted ≡ unwrap_or (bound_by values ranks product) zero_ends → more ≡ taken sums counted
-    → AreDone values ranks all rest more
-done-more values ranks all now rest sums more product counted d is counts takes = record {
+pub done-more : (settings : Settings) (values : Option (List Ends)) (ranks : List EventNumber) (all now rest : List (List ℕ)) (sums more : Sums) (product : List ℕ) (counted : Ends)
+    → AreDone settings values ranks all now sums → now ≡ product ∷ rest → counted ≡ unwrap_or (bound_by values ranks product) zero_ends → AreAsked settings more (taken sums counted)
+    → AreDone settings values ranks all rest more
+done-more settings values ranks all now rest sums more product counted d is counts takes = record {
   done = d.done ++ product ∷ [];
   splits = append_assoc d.done (product ∷ []) rest ∙ ap (λ (sets : List (List ℕ)). d.done ++ sets) (sym is) ∙ d.splits;
-  are_totals = takes ∙ ap (taken sums) counts ∙ ap (λ (s : Sums). taken s (unwrap_or (bound_by values ranks product) zero_ends)) d.are_totals ∙ totals-more values ranks d.done product;
+  are_totals =
+      subst (AreAsked settings more) (ap (taken (totals_by values ranks d.done)) counts ∙ totals-more values ranks d.done product)
+      (asked-more settings sums more (totals_by values ranks d.done) counted d.are_totals takes);
 }
 
 -- at the end all are
-pub done-all : (values : Option (List Ends)) (ranks : List EventNumber) (all rest : List (List ℕ)) (sums : Sums) → AreDone values ranks all rest sums → rest ≡ [] → sums ≡ totals_by values ranks all
-done-all values ranks all rest sums d none =
-    d.are_totals ∙ ap (totals_by values ranks) (sym (append-nil d.done) ∙ ap (λ (sets : List (List ℕ)). d.done ++ sets) (sym none) ∙ d.splits)
+pub done-all : (settings : Settings) (values : Option (List Ends)) (ranks : List EventNumber) (all rest : List (List ℕ)) (sums : Sums) → AreDone settings values ranks all rest sums → rest ≡ []
+    → AreAsked settings sums (totals_by values ranks all)
+done-all settings values ranks all rest sums d none =
+    subst (λ (sets : List (List ℕ)). AreAsked settings sums (totals_by values ranks sets))
+    (sym (append-nil d.done) ∙ ap (λ (sets : List (List ℕ)). d.done ++ sets) (sym none) ∙ d.splits) d.are_totals
 
 -- ---- the section
 

@@ -1,5 +1,5 @@
 -- What is written of the section of a target. This project's own.
-use Rattle.std.specs.Prelude.{ℕ, ℤ, Bool, true, List, [], ◌++◌, Option, Some, None, Result, min, flat_map, int_le, length, map}
+use Rattle.std.specs.Prelude.{◌≡◌, ℕ, ℤ, Bool, true, List, [], ◌++◌, Option, Some, None, Result, min, flat_map, int_le, length, map}
 use Rattle.std.specs.Option.{option_map, unwrap_or}
 use Rattle.psa_number.specs.Ends.{Ends}
 use Rattle.psa_number.specs.Operations.{complement_ends}
@@ -44,6 +44,13 @@ totals_by values ranks products = record {
   rare_event = rare_event_of (bounds_by values ranks products);
   rest = rest_of (bounds_by values ranks products);
 }
+
+-- totals that are those of products where the settings ask for them: what the min-cut upper bound leaves of 1 stands only
+-- where that bound is asked for
+pub record AreAsked (settings : Settings) (sums totals : Sums) : Type 0 where
+  pub count : sums.count ≡ totals.count
+  pub rare_event : sums.rare_event ≡ totals.rare_event
+  pub rest : settings.mcub ≡ true → sums.rest ≡ totals.rest
 
 -- the text of a section over these products
 abbrev pub text_by : Settings → Expanded → Option (List Ends) → Target → List EventNumber → List (List ℕ) → List ℕ

@@ -10,9 +10,10 @@ ghost use Rattle.psa_nodes.specs.declared.node.Kind.TheVariants.{Zbdd};
 ghost use Rattle.psa_nodes.specs.Readings.{has, stands};
 ghost use Rattle.psa_products.specs.Products.{product_of};
 ghost use Rattle.psa_products.specs.Rules.{IsRuled};
+ghost use Rattle.psa_products.specs.Sums.{taken};
 ghost use Rattle.psa_report.specs.Pieces.{Writes};
 ghost use Rattle.psa_sections.specs.ProductNodes.{IsNodeOfProducts, analysis_by};
-ghost use Rattle.psa_sections.specs.Writing.{WritesSection, bound_by, line_by, text_by, reaches as least_is_reached, totals_by};
+ghost use Rattle.psa_sections.specs.Writing.{AreAsked, WritesSection, bound_by, line_by, text_by, reaches as least_is_reached, totals_by};
 
 use psa_model::{Expanded, MAX_ORDER, Product, Ranks, Settings, Target, Values};
 use psa_nodes::{NodeId, NodeTable, Steps};
@@ -83,6 +84,18 @@ pub fn counted_bound(bound: &Option<Interval>) -> Interval
     bound.unwrap_or(Interval { lo: 0, hi: 0 })
 }
 
+/// Takes one more product with this bound into the totals that the settings ask for.
+fn count(totals: &mut Totals, settings: &Settings, bound: Interval)
+    requires { IsInUnit bound }
+    ensures { AreAsked settings.now totals.new (taken totals.old bound) }
+{
+    if settings.mcub {
+        totals.take(bound);
+    } else {
+        totals.take_sum(bound);
+    }
+}
+
 /// Writes the lines of the products of a listing, and takes each into the totals.
 fn write_listed<S: Sink, R: Rule, L: Ledger>(
     out: &mut S,
@@ -96,8 +109,8 @@ fn write_listed<S: Sink, R: Rule, L: Ledger>(
     ensures lines { Writes (S.written out.old) (S.written out.new) (S.faults out.old) (S.faults out.new)
         (flat_map (line_by subject.now.expanded.now subject.now.values.now subject.now.ranks.now)
         lister.old.rest) result }
-    ensures totals { OnOk result (totals.new
-        ≡ totals_by subject.now.values.now subject.now.ranks.now lister.old.rest) }
+    ensures totals { OnOk result (AreAsked subject.now.settings.now totals.new
+        (totals_by subject.now.values.now subject.now.ranks.now lister.old.rest)) }
 {
     let mut lines = ProductLines::new(subject.expanded, subject.ranks);
     let mut bounds = Bounds::new(subject.values, subject.ranks);
@@ -106,7 +119,7 @@ fn write_listed<S: Sink, R: Rule, L: Ledger>(
         let bound = bounds.bound(product);
         let counted = counted_bound(&bound);
         lines.write(out, product, bound)?;
-        totals.take(counted);
+        count(totals, subject.settings, counted);
     }
     Ok(())
 }

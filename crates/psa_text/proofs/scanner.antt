@@ -11,4 +11,5 @@ pub mod FirstFaults
 pub mod RootsAtEnd
 pub mod SpansInFront
 pub mod SpansRead
+pub mod TagsRead
 pub mod PiecesRead

@@ -10,14 +10,17 @@ use crate::scanner::item::Item;
 use crate::tag::Tag;
 use crate::{Element, Items, OutOfMemory};
 use std::alloc::Global;
+use thiserror::Error;
 
 /// The longest list that is copied to have exactly the room that it needs.
 const MAX_COPIED: usize = 64;
 
 /// Why a step was not made: the text does not allow it, or memory ran out.
-#[derive(Debug, Drop)]
+#[derive(Debug, Clone, Copy, PartialEq, Eq, Drop, Error)]
 pub enum StepError {
+    #[error("the text does not allow the step")]
     Refused,
+    #[error("out of memory")]
     Memory,
 }
 

@@ -1,4 +1,4 @@
-ghost use Rattle.std.specs.Prelude.{◌≡◌, ◌++◌, ◌+◌, ◌<◌, ◌≤◌, [], List, ℕ, None, Ok, IfErr, length};
+ghost use Rattle.std.specs.Prelude.{◌≡◌, ◌≢◌, ◌++◌, ◌+◌, ◌<◌, ◌≤◌, [], List, ℕ, None, Ok, IfErr, length};
 ghost use Rattle.std.specs.Result.{IsErrOf};
 ghost use Rattle.psa_text.specs.declared.scanner.error.TextError.{TextError};
 ghost use Rattle.psa_text.specs.declared.scanner.mark.Mark.{Mark};
@@ -121,11 +121,44 @@ impl Scanner {
         let room = (MAX_FILE_BYTES - self.count) as usize;
         let (near, _) = bytes.split_at(bytes.len().min(room));
         let rest = if self.lexer.is_between() {
-            self.read_texts(near)
+            self.read_between(near)
         } else {
             self.read_within(near)
         };
         bytes.split_at(near.len() - rest.len()).1
+    }
+
+    /// Reads in one go the texts at the front that change nothing but the counts, and of the tag
+    /// behind them what comes before its `>`, as far as it is plain.
+    fn read_between<'a>(&mut self, bytes: &'a [u8]) -> &'a [u8]
+        requires failed { self.old.failed ≡ None }
+        requires mark { self.old.mark ≡ Mark.Passed }
+        requires between { lex_of self.old.lexer ≡ machine.Between }
+        requires room { self.old.count + length bytes.now ≤ MAX_FILE_BYTES }
+        ensures read { ReadsSpan (scan_of self.old) bytes.now (scan_of self.new) result.now }
+        ensures failed { self.new.failed ≡ None }
+    {
+        let rest = self.read_texts(bytes);
+        if self.elements == MAX_ELEMENTS {
+            return rest;
+        }
+        self.read_tag(rest)
+    }
+
+    /// Reads in one go of the tag at the front what comes before its `>`, as far as it is plain.
+    fn read_tag<'a>(&mut self, bytes: &'a [u8]) -> &'a [u8]
+        requires failed { self.old.failed ≡ None }
+        requires mark { self.old.mark ≡ Mark.Passed }
+        requires between { lex_of self.old.lexer ≡ machine.Between }
+        requires few { self.old.elements ≢ MAX_ELEMENTS }
+        requires room { self.old.count + length bytes.now ≤ MAX_FILE_BYTES }
+        ensures read { ReadsSpan (scan_of self.old) bytes.now (scan_of self.new) result.now }
+        ensures failed { self.new.failed ≡ None }
+    {
+        let rest = self.lexer.read_tag(bytes);
+        let (span, _) = bytes.split_at(bytes.len() - rest.len());
+        self.count_bytes(span);
+        rest
     }
 
     /// Reads in one go the texts at the front that change nothing but the counts.
@@ -136,6 +169,9 @@ impl Scanner {
         requires room { self.old.count + length bytes.now ≤ MAX_FILE_BYTES }
         ensures read { ReadsSpan (scan_of self.old) bytes.now (scan_of self.new) result.now }
         ensures failed { self.new.failed ≡ None }
+        ensures mark { self.new.mark ≡ Mark.Passed }
+        ensures between { lex_of self.new.lexer ≡ machine.Between }
+        ensures room { self.new.count + length result.now ≤ MAX_FILE_BYTES }
     {
         let rest = self.behind_texts(bytes);
         let (span, _) = bytes.split_at(bytes.len() - rest.len());

@@ -13,8 +13,8 @@ use Rattle.psa_model.specs.declared.settings.Mode.TheVariants.{CutSets, Primes}
 use Rattle.psa_model.specs.declared.settings.Input.{Input}
 use Rattle.psa_model.specs.declared.settings.Input.TheVariants.{Files, Sample}
 use Rattle.psa_model.specs.declared.settings.Settings.{Settings}
-use Rattle.psa_words.specs.declared.limits.TheConstants.{DEFAULT_LIMIT_ORDER, DEFAULT_MISSION_TIME, MAX_DIGITS, MAX_LIMIT_ORDER, MAX_NODE_LIMIT, MAX_SAMPLE, MIN_SAMPLE}
-use Rattle.psa_model.specs.declared.limits.TheConstants.{MAX_FILES}
+use Rattle.psa_words.specs.declared.limits.TheConstants.{DEFAULT_LIMIT_ORDER, DEFAULT_MISSION_TIME, MAX_DIGITS, MAX_LIMIT_ORDER, MAX_NODE_LIMIT}
+use Rattle.psa_model.specs.declared.limits.TheConstants.{MAX_FILES, MAX_SAMPLE, MIN_SAMPLE}
 use Rattle.psa_words.specs.Reading.{Text, Item, flag, valued, file, items_from, between}
 use Rattle.psa_words.specs.Options.{Setting, name_of, options, bdd, zbdd, prime_implicants, rare_event, mcub, ccf, validate, limit_order, cut_off, mission_time, node_limit, sample}
 
@@ -173,6 +173,7 @@ settings_with given limit cut mission nodes input = record {
 }
 
 infixl 10 ◌>>=◌
+-- a function of a value, where there is one, and it gives one
 abbrev pub ◌>>=◌ : {A B : Type 0} → Option A → (A → Option B) → Option B
 x >>= f = option_and_then f x
 

@@ -16,7 +16,6 @@ mod values;
 pub use fault::WordsError;
 pub use limits::{
     DEFAULT_LIMIT_ORDER, DEFAULT_MISSION_TIME, MAX_DIGITS, MAX_LIMIT_ORDER, MAX_NODE_LIMIT,
-    MAX_SAMPLE, MIN_SAMPLE,
 };
 use psa_model::Settings;
 use std::alloc::Global;

@@ -10,11 +10,5 @@ pub const DEFAULT_MISSION_TIME: u32 = 8760;
 /// The greatest limit of nodes.
 pub const MAX_NODE_LIMIT: u64 = 1_000_000_000_000;
 
-/// The least size of the sample model.
-pub const MIN_SAMPLE: u64 = 2;
-
-/// The greatest size of the sample model.
-pub const MAX_SAMPLE: u64 = 1000;
-
 /// The most digits of a whole number.
 pub const MAX_DIGITS: usize = 13;

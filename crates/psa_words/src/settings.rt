@@ -7,11 +7,10 @@ ghost use Rattle.psa_words.specs.Found.{given_in, all_names, is_given as is_give
 ghost use Rattle.psa_words.specs.Given.{has_conflict as conflict_of, input_of, settings_from};
 
 use crate::WordsError;
-use crate::limits::{MAX_SAMPLE, MIN_SAMPLE};
 use crate::values::{cut_off, limit_order, mission_time, node_limit, whole_between};
 use clap::ArgMatches;
 use clap::parser::ValueSource;
-use psa_model::{Algorithm, Input, MAX_FILES, Mode, Settings};
+use psa_model::{Algorithm, Input, MAX_FILES, MAX_SAMPLE, MIN_SAMPLE, Mode, Settings};
 use psa_text::{Items, OutOfMemory, Text};
 use std::alloc::Global;
 

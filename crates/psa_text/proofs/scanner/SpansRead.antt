@@ -24,6 +24,12 @@ not_it false h = refl
 few : (count : ℕ) → count < 67108864 → (count == 67108864) ≡ false
 few count h = grind (arith, nat_tests, h)
 
+-- what holds of two tests where one tells the other
+not_both : (m full t : Bool) → (m ≡ true → full ≡ true) → (full && t) ≡ false → (m && t) ≡ false
+not_both false full t known h = refl
+not_both true true t known h = h
+not_both true false t known h = absurd (let e = known refl in cc)
+
 blank_no_tag : (b : ℕ) → is_blank b ≡ true → (b == 60) ≡ false
 blank_no_tag b h = grind (arith, nat_tests, h)
 
@@ -68,37 +74,37 @@ module _ (elements : ℕ) (nest : State) where
       more : count + 1 + length (c ∷ cs) ≡ count + length (b ∷ c ∷ cs)
       more = omega arith
 
-  -- a byte that stays within the item under way
-  judged_read : (count line start : ℕ) (p q : Lex) (b : ℕ) → count < 67108864 → begins_tag p b ≡ false → judgement p b ≡ On q
+  -- a byte that stays within the item under way, and begins no element where the text is full of them
+  judged_read : (full : Bool) → ((elements == 1000000) ≡ true → full ≡ true) → (count line start : ℕ) (p q : Lex) (b : ℕ) → count < 67108864 → (full && begins_tag p b) ≡ false → judgement p b ≡ On q
       → scan_after (at count line start p) b ≡ Ok (at (count + 1) (line_after_byte line b) start q)
-  judged_read count line start p q b short other goes = rw (few count short, other, and_false (elements == 1000000), goes) refl
+  judged_read full known count line start p q b short other goes = rw (few count short, not_both (elements == 1000000) full (begins_tag p b) known other, goes) refl
 
   -- the same over bytes
-  within_read : (span : List ℕ) (count line start : ℕ) (p q : Lex) → state_after_within p span ≡ Some q → count + length span ≤ 67108864
+  within_read : (full : Bool) → ((elements == 1000000) ≡ true → full ≡ true) → (span : List ℕ) (count line start : ℕ) (p q : Lex) → state_after_within full p span ≡ Some q → count + length span ≤ 67108864
       → scan_after_bytes (at count line start p) span ≡ Ok (at (count + length span) (line_after_bytes line span) start q)
-  within_read [] count line start p q leads room = rw (add-zero count, add-zero line, some_same p q leads) refl
-  within_read (b ∷ bs) count line start p q leads room =
-      on (begins_tag p b) (judgement p b) refl refl leads (λ r h. rw (← lines_then line b bs, ← more) (within_read bs (count + 1) (line_after_byte line b) start r q h (omega (arith, room))))
+  within_read full known [] count line start p q leads room = rw (add-zero count, add-zero line, some_same p q leads) refl
+  within_read full known (b ∷ bs) count line start p q leads room =
+      on (full && begins_tag p b) (judgement p b) refl refl leads (λ r h. rw (← lines_then line b bs, ← more) (within_read full known bs (count + 1) (line_after_byte line b) start r q h (omega (arith, room))))
     where
       more : count + 1 + length bs ≡ count + length (b ∷ bs)
       more = omega arith
 
-      on : (t : Bool) (goes : Judged) → begins_tag p b ≡ t → judgement p b ≡ goes → (if t then None else and_within goes (λ r. state_after_within r bs)) ≡ Some q
-          → ((r : Lex) → state_after_within r bs ≡ Some q → scan_after_bytes (at (count + 1) (line_after_byte line b) start r) bs ≡ Ok (at (count + length (b ∷ bs)) (line_after_bytes line (b ∷ bs)) start q))
+      on : (t : Bool) (goes : Judged) → (full && begins_tag p b) ≡ t → judgement p b ≡ goes → (if t then None else and_within goes (λ r. state_after_within full r bs)) ≡ Some q
+          → ((r : Lex) → state_after_within full r bs ≡ Some q → scan_after_bytes (at (count + 1) (line_after_byte line b) start r) bs ≡ Ok (at (count + length (b ∷ bs)) (line_after_bytes line (b ∷ bs)) start q))
           → scan_after_bytes (at count line start p) (b ∷ bs) ≡ Ok (at (count + length (b ∷ bs)) (line_after_bytes line (b ∷ bs)) start q)
       on true goes e g h rest = absurd (cc)
       on false IsBad e g h rest = absurd (cc)
       on false IsLong e g h rest = absurd (cc)
       on false (Done item) e g h rest = absurd (cc)
-      on false (On r) e g h rest = rw (judged_read count line start p r b (omega (arith, room)) e g) (rest r h)
+      on false (On r) e g h rest = rw (judged_read full known count line start p r b (omega (arith, room)) e g) (rest r h)
 
 -- spans one behind the other
-within-append : (u v : List ℕ) (p q r : Lex) → state_after_within p u ≡ Some q → state_after_within q v ≡ Some r → state_after_within p (u ++ v) ≡ Some r
-within-append [] v p q r h k = rw (some_same p q h) k
-within-append (b ∷ bs) v p q r h k = on (begins_tag p b) (judgement p b) h (λ s e. within-append bs v s q r e k)
+pub within-append : (full : Bool) (u v : List ℕ) (p q r : Lex) → state_after_within full p u ≡ Some q → state_after_within full q v ≡ Some r → state_after_within full p (u ++ v) ≡ Some r
+within-append full [] v p q r h k = rw (some_same p q h) k
+within-append full (b ∷ bs) v p q r h k = on (full && begins_tag p b) (judgement p b) h (λ s e. within-append full bs v s q r e k)
   where
-    on : (t : Bool) (goes : Judged) → (if t then None else and_within goes (λ s. state_after_within s bs)) ≡ Some q → ((s : Lex) → state_after_within s bs ≡ Some q → state_after_within s (bs ++ v) ≡ Some r)
-        → (if t then None else and_within goes (λ s. state_after_within s (bs ++ v))) ≡ Some r
+    on : (t : Bool) (goes : Judged) → (if t then None else and_within goes (λ s. state_after_within full s bs)) ≡ Some q → ((s : Lex) → state_after_within full s bs ≡ Some q → state_after_within full s (bs ++ v) ≡ Some r)
+        → (if t then None else and_within goes (λ s. state_after_within full s (bs ++ v))) ≡ Some r
     on true goes h rest = absurd (cc)
     on false IsBad h rest = absurd (cc)
     on false IsLong h rest = absurd (cc)
@@ -106,21 +112,29 @@ within-append (b ∷ bs) v p q r h k = on (begins_tag p b) (judgement p b) h (λ
     on false (On s) h rest = rest s h
 
 -- no byte keeps the state
-pub within_none : (p : Lex) (bytes : List ℕ) → ReadsWithin p bytes p bytes
-within_none p bytes = record { span = []; joined = refl; leads = refl }
+pub within_none : (full : Bool) (p : Lex) (bytes : List ℕ) → ReadsWithin full p bytes p bytes
+within_none full p bytes = record { span = []; joined = refl; leads = refl }
 
 -- one more byte that stays within the item
-pub within_more : (p q r : Lex) (bytes rest more : List ℕ) (b : ℕ) → ReadsWithin p bytes q rest → rest ≡ b ∷ more → begins_tag q b ≡ false → judgement q b ≡ On r → ReadsWithin p bytes r more
+pub within_more : (p q r : Lex) (bytes rest more : List ℕ) (b : ℕ) → ReadsWithin true p bytes q rest → rest ≡ b ∷ more → begins_tag q b ≡ false → judgement q b ≡ On r → ReadsWithin true p bytes r more
 within_more p q r bytes rest more b h is other goes = record {
   span = h.span ++ (b ∷ []);
   joined = h.joined ∙ ap (λ xs. h.span ++ xs) is ∙ sym (append_assoc h.span (b ∷ []) more);
-  leads = within-append h.span (b ∷ []) p q r h.leads (rw (other, goes) refl);
+  leads = within-append true h.span (b ∷ []) p q r h.leads (rw (other, goes) refl);
+}
+
+-- what is read one behind the other
+pub within_then : (full : Bool) (p q r : Lex) (bytes rest more : List ℕ) → ReadsWithin full p bytes q rest → ReadsWithin full q rest r more → ReadsWithin full p bytes r more
+within_then full p q r bytes rest more h k = record {
+  span = h.span ++ k.span;
+  joined = h.joined ∙ ap (λ xs. h.span ++ xs) k.joined ∙ sym (append_assoc h.span k.span more);
+  leads = within-append full h.span k.span p q r h.leads k.leads;
 }
 
 -- bytes that leave the machine where it is
-within_same : (p : Lex) (test : ℕ → Bool) → ((b : ℕ) → test b ≡ true → (begins_tag p b ≡ false) × (judgement p b ≡ On p)) → (span : List ℕ) → AllPass test span → state_after_within p span ≡ Some p
-within_same p test stays [] passes = refl
-within_same p test stays (b ∷ bs) passes = rw ((stays b passes.0).0, (stays b passes.0).1) (within_same p test stays bs passes.1)
+within_same : (full : Bool) (p : Lex) (test : ℕ → Bool) → ((b : ℕ) → test b ≡ true → (begins_tag p b ≡ false) × (judgement p b ≡ On p)) → (span : List ℕ) → AllPass test span → state_after_within full p span ≡ Some p
+within_same full p test stays [] passes = refl
+within_same full p test stays (b ∷ bs) passes = rw ((stays b passes.0).0, and_false full, (stays b passes.0).1) (within_same full p test stays bs passes.1)
 
 -- a comment goes on at any byte but a hyphen
 pub other_in_comment : (b : ℕ) → is_other 45 b ≡ true → (begins_tag InComment b ≡ false) × (judgement InComment b ≡ On InComment)
@@ -131,8 +145,8 @@ pub other_in_instruction : (b : ℕ) → is_other 63 b ≡ true → (begins_tag 
 other_in_instruction b h = (refl, rw (not_it (b == 63) h) refl)
 
 -- bytes at which an item goes on in the same state
-pub behind_same : (p : Lex) (test : ℕ → Bool) (bytes rest : List ℕ) → ((b : ℕ) → test b ≡ true → (begins_tag p b ≡ false) × (judgement p b ≡ On p)) → IsBehind test bytes rest → ReadsWithin p bytes p rest
-behind_same p test bytes rest stays h = record { span = h.span; joined = h.joined; leads = within_same p test stays h.span h.passes }
+pub behind_same : (full : Bool) (p : Lex) (test : ℕ → Bool) (bytes rest : List ℕ) → ((b : ℕ) → test b ≡ true → (begins_tag p b ≡ false) × (judgement p b ≡ On p)) → IsBehind test bytes rest → ReadsWithin full p bytes p rest
+behind_same full p test bytes rest stays h = record { span = h.span; joined = h.joined; leads = within_same full p test stays h.span h.passes }
 
 short : (span rest bytes : List ℕ) (n : ℕ) → bytes ≡ span ++ rest → n + length bytes ≤ 67108864 → n + length span ≤ 67108864
 short span rest bytes n e room = let lengths = ap length e ∙ length-append span rest in omega (arith, lengths, room)
@@ -143,12 +157,12 @@ module _ (mark : Mark) (passed : mark ≡ Passed) (count line start elements : �
   before lex = record { mark = mark; count = count; line = line; start = start; elements = elements; lex = lex; nesting = nest }
 
   -- bytes within an item are read in one go
-  pub span_within : (p q : Lex) (bytes rest : List ℕ) → count + length bytes ≤ 67108864 → (h : ReadsWithin p bytes q rest)
+  pub span_within : (full : Bool) → ((elements == 1000000) ≡ true → full ≡ true) → (p q : Lex) (bytes rest : List ℕ) → count + length bytes ≤ 67108864 → (h : ReadsWithin full p bytes q rest)
       → ReadsSpan (before p) bytes (record (before p) { count = count + length h.span; line = line_after_bytes line h.span; lex = q }) rest
-  span_within p q bytes rest room h = record {
+  span_within full known p q bytes rest room h = record {
     span = h.span;
     joined = h.joined;
-    read = rw passed (within_read elements nest h.span count line start p q h.leads (short h.span rest bytes count h.joined room));
+    read = rw passed (within_read elements nest full known h.span count line start p q h.leads (short h.span rest bytes count h.joined room));
   }
 
   -- texts that change nothing but the counts are read in one go

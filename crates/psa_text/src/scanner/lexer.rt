@@ -1,11 +1,13 @@
-ghost use Rattle.std.specs.Prelude.{◌≡◌, ◌+◌, ◌<◌, ◌≤◌, [], ◌∷◌, length, IfOk};
+ghost use Rattle.std.specs.Prelude.{◌≡◌, ◌+◌, ◌<◌, ◌≤◌, [], ◌∷◌, ◌++◌, true, length, IfOk, OnErr, OnOk};
 ghost use Rattle.psa_text.specs.declared.scanner.lexer.TokenError.TheVariants.{Memory};
 ghost use Rattle.psa_text.specs.declared.scanner.place.Place.{Place};
 ghost use Rattle.psa_text.specs.declared.scanner.place.Place.TheVariants as place;
 ghost use Rattle.psa_text.specs.declared.scanner.place.Reference.TheVariants as refer;
 ghost use Rattle.psa_text.specs.scanner.Machine as machine;
-ghost use Rattle.psa_text.specs.scanner.Spans.{ReadsWithin, Takes, is_turned};
+ghost use Rattle.psa_text.specs.scanner.Spans.{ReadsWithin, Takes};
 ghost use Rattle.psa_text.specs.scanner.View.{EndsNumber, EndsReference, EndsValue, Goes, HasReferenceRoom, IsInName, PushesName, Refers, judgement, judgement_of, lex_of};
+
+mod tags;
 
 use crate::limits::{MAX_ATTRIBUTES, MAX_NAME_BYTES, MAX_REFERENCE_DIGITS, MAX_VALUE_BYTES};
 use crate::scanner::bytes::{
@@ -15,24 +17,28 @@ use crate::scanner::bytes::{
 use crate::scanner::item::Item;
 use crate::scanner::name::Name;
 use crate::scanner::place::{Entity, Place, Reference};
-use crate::scanner::spans::from_first;
+use crate::scanner::spans::{from_first, is_turned};
 use crate::tag::Tag;
 use crate::{Attribute, Items, OutOfMemory, Text};
 use arrayvec::ArrayVec;
 use std::alloc::Global;
 use std::marker::Model;
 use std::mem;
+use thiserror::Error;
 
 /// The letters of a doctype behind `<!D`.
 const DOCTYPE_LETTERS: &[u8] = b"OCTYPE";
 
 /// Why a byte is refused.
-#[derive(Debug, Clone, Copy, PartialEq, Eq, Drop)]
+#[derive(Debug, Clone, Copy, PartialEq, Eq, Drop, Error)]
 pub enum TokenError {
     /// No item has it there, or it ends what is no text or no character.
+    #[error("no item has the byte there")]
     Bad,
     /// It is one too many, of a name, a value or a tag's attributes.
+    #[error("the byte is one too many")]
     Long,
+    #[error("out of memory")]
     Memory,
 }
 
@@ -160,7 +166,7 @@ impl Lexer {
     /// Reads in one go the bytes at the front that go on with the name, the value, the comment or
     /// the instruction under way. Gives the bytes behind them.
     pub fn read_span<'a>(&mut self, bytes: &'a [u8]) -> &'a [u8]
-        ensures { ReadsWithin (lex_of self.old) bytes.now (lex_of self.new) result.now }
+        ensures { ReadsWithin true (lex_of self.old) bytes.now (lex_of self.new) result.now }
     {
         match self.place {
             Place::Name | Place::AttributeName | Place::EndName => self.read_name(bytes),
@@ -174,7 +180,7 @@ impl Lexer {
     /// The further bytes of a name, as long as they fit.
     fn read_name<'a>(&mut self, mut bytes: &'a [u8]) -> &'a [u8]
         requires { IsInName self.old.place }
-        ensures { ReadsWithin (lex_of self.old) bytes.entry.now (lex_of self.new) result.now }
+        ensures { ReadsWithin true (lex_of self.old) bytes.entry.now (lex_of self.new) result.now }
     {
         while let [byte, rest @ ..] = bytes {
             if !self.takes_into_name(*byte) {
@@ -201,7 +207,7 @@ impl Lexer {
     /// The further bytes of a value that stand for themselves, as long as they fit.
     fn read_value<'a>(&mut self, mut bytes: &'a [u8]) -> &'a [u8]
         requires { self.old.place ≡ place.Value }
-        ensures { ReadsWithin (lex_of self.old) bytes.entry.now (lex_of self.new) result.now }
+        ensures { ReadsWithin true (lex_of self.old) bytes.entry.now (lex_of self.new) result.now }
     {
         while let [byte, rest @ ..] = bytes {
             if !self.takes_into_value(*byte) {
@@ -505,14 +511,25 @@ impl Lexer {
     {
         let value = text_of(self.alloc, trimmed(&self.value))?;
         let name = mem::replace(&mut self.named, Text::new(self.alloc));
-        let attribute = Attribute { name, value };
+        self.end_attribute(Attribute { name, value })?;
+        Ok(None)
+    }
+
+    /// The attribute under way is whole.
+    fn end_attribute(&mut self, attribute: Attribute) -> Result<(), OutOfMemory>
+        ensures ok { OnOk result (self.new ≡ record self.old {
+          place = place.Behind;
+          tag = record self.old.tag { attributes = self.old.tag.attributes ++ attribute ∷ [] };
+        }) }
+        ensures err { OnErr result (self.new ≡ self.old) }
+    {
         if self.tag.attributes.is_empty() {
             self.tag.attributes = alone(self.alloc, attribute)?;
         } else {
             self.tag.attributes.push(attribute)?;
         }
         self.place = Place::Behind;
-        Ok(None)
+        Ok(())
     }
 
     fn in_reference(&mut self, reference: Reference, byte: u8) -> Result<Option<Item>, TokenError>
@@ -714,13 +731,6 @@ impl Lexer {
         self.place = Place::Between;
         item
     }
-}
-
-/// A byte that a value does not hold as it stands, or that does not stand in it.
-fn is_turned(byte: u8) -> bool
-    ensures { result ≡ is_turned byte }
-{
-    matches!(byte, b'<' | b'&' | b'\t' | b'\n' | b'\r')
 }
 
 /// A list of one attribute, with room for no other: most elements have one.

@@ -1,7 +1,7 @@
 use Rattle.std.proofs.Common.{List, subst, sym, ◌∙◌}
 use Rattle.psa_model.specs.declared.model.Factor.{Factor}
 use Rattle.psa_names.specs.ModelOfDraft.{group_of}
-use Rattle.psa_assembly.specs.Made.{IsMade}
+use Rattle.psa_bodies.specs.Made.{IsMade}
 use Rattle.psa_assembly.proofs.GroupForms.{group-made, group_with}
 use Rattle.psa_assembly.proofs.groups.make_group.Goals as goal
 

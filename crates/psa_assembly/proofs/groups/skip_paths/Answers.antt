@@ -1,6 +1,6 @@
 use Rattle.std.proofs.Common.{refl}
 use Rattle.psa_assembly.proofs.GroupForms.{paths-more, paths-all}
-use Rattle.psa_assembly.proofs.ReadingInOrder.{reads-none}
+use Rattle.psa_bodies.proofs.ReadingInOrder.{reads-none}
 use Rattle.psa_assembly.proofs.groups.skip_paths.Goals as goal
 
 pub loop-member-init : goal.loop-member-init

@@ -1,7 +1,7 @@
 use Rattle.std.proofs.Common.{◌+◌, ◌++◌, arith, [], ◌∷◌, refl, ◌∙◌}
-use Rattle.psa_drafts.specs.Sayings.{reading_among}
-use Rattle.psa_drafts.specs.Starts.{around_of}
-use Rattle.psa_drafts.proofs.Passing.{next-fits, child-readable, counted-more, counted-all, picked-more, first-more}
+use Rattle.psa_draft_parts.specs.Sayings.{reading_among}
+use Rattle.psa_draft_parts.specs.Starts.{around_of}
+use Rattle.psa_draft_parts.proofs.Passing.{next-fits, child-readable, counted-more, counted-all, picked-more, first-more}
 use Rattle.psa_elements.specs.ElementTable.{instructions, to_event_tree}
 use Rattle.psa_elements.specs.DraftReading.{instruction_of, link_of}
 use Rattle.psa_drafts.proofs.bodies.steps_body.Goals as goal

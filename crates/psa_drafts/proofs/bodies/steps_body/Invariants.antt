@@ -2,8 +2,8 @@ use Rattle.std.proofs.Common.{◌≡◌, ◌+◌, take, slice_get, [], ◌∷◌
 use Rattle.std.specs.List.{filter_map}
 use Rattle.psa_elements.specs.DraftReading.{instructions_in, link_of}
 use Rattle.psa_elements.specs.ElementTable.{instructions, to_event_tree}
-use Rattle.psa_drafts.specs.Sayings.{sizes_of, readings_among}
-use Rattle.psa_drafts.specs.Starts.{around_of}
+use Rattle.psa_draft_parts.specs.Sayings.{sizes_of, readings_among}
+use Rattle.psa_draft_parts.specs.Starts.{around_of}
 use Rattle.psa_drafts.proofs.bodies.steps_body.Given as goal
 
 abbrev pub invariant-loop-child : goal.invariant-loop-child

@@ -1,15 +1,15 @@
 use Rattle.std.proofs.Common.{◌≡◌, ◌++◌, Option, Some, None, [], ◌∷◌, ap, sym, ◌∙◌}
 use Rattle.std.proofs.Common.{subst, append-nil}
 use Rattle.std.specs.Option.{option_or, option_to_list}
-use Rattle.psa_drafts.specs.Starts.{around_of}
-use Rattle.psa_drafts.proofs.Readings.{among-first, among-others, one-row, no-row}
+use Rattle.psa_draft_parts.specs.Starts.{around_of}
+use Rattle.psa_draft_parts.proofs.Readings.{among-first, among-others, one-row, no-row}
 use Rattle.psa_elements.specs.ElementTable.{instructions, to_event_tree}
 use Rattle.psa_elements.specs.DraftReading.{instruction_of, link_of}
 use Rattle.psa_model.specs.declared.draft.DraftInstruction.{DraftInstruction}
 use Rattle.psa_model.specs.declared.draft.DraftReference.{DraftReference}
-use Rattle.psa_drafts.specs.Rows.{row_of_instruction}
-use Rattle.psa_drafts.proofs.Passing.{always-ok, or-none, not-so, is-so}
-use Rattle.psa_drafts.proofs.InstructionSayings as says
+use Rattle.psa_draft_parts.specs.Rows.{row_of_instruction}
+use Rattle.psa_draft_parts.proofs.Passing.{always-ok, or-none, not-so, is-so}
+use Rattle.psa_draft_parts.proofs.InstructionSayings as says
 use Rattle.std.proofs.Common.{OnOk}
 use Rattle.psa_drafts.proofs.bodies.steps_part.Goals as goal
 

@@ -4,16 +4,16 @@ use Rattle.psa_elements.specs.DraftReading as reading
 use Rattle.std.specs.List.{filter_map}
 use Rattle.std.specs.Option.{option_or, option_to_list}
 use Rattle.psa_text.specs.declared.tree.Element.TheViews as q
-use Rattle.psa_drafts.specs.Sayings.{reading_among, reading_as, start_tag}
-use Rattle.psa_drafts.specs.Starts.{around_of}
-use Rattle.psa_drafts.proofs.Passing.{not-so, next-fits, child-readable, counted-more, counted-all, picked-more, first-more, inside-all}
+use Rattle.psa_draft_parts.specs.Sayings.{reading_among, reading_as, start_tag}
+use Rattle.psa_draft_parts.specs.Starts.{around_of}
+use Rattle.psa_draft_parts.proofs.Passing.{not-so, next-fits, child-readable, counted-more, counted-all, picked-more, first-more, inside-all}
 use Rattle.std.proofs.Common.{OnOk}
-use Rattle.psa_drafts.proofs.Passing.{always-ok, or-none, is-so}
+use Rattle.psa_draft_parts.proofs.Passing.{always-ok, or-none, is-so}
 use Rattle.psa_model.specs.PathNames.{Text}
 use Rattle.psa_model.specs.declared.ids.Place.{Place}
 use Rattle.psa_model.specs.declared.draft.DraftBranch.{DraftBranch}
 use Rattle.psa_model.specs.declared.draft.DraftForkPath.{roll-DraftForkPath}
-use Rattle.psa_drafts.proofs.Readings.{among-known, among-first, among-others, one-row, no-row}
+use Rattle.psa_draft_parts.proofs.Readings.{among-known, among-first, among-others, one-row, no-row}
 use Rattle.psa_elements.specs.ElementTable.{instructions, ends, path}
 use Rattle.psa_elements.specs.DraftReading.{Reading, instruction_of, instructions_in, end_of, path_of, branch_in}
 use Rattle.psa_model.specs.declared.draft.DraftBranchEnd.{DraftBranchEnd}
@@ -21,9 +21,9 @@ use Rattle.psa_model.specs.declared.draft.DraftBranchEnd.TheVariants as ending
 use Rattle.psa_model.specs.declared.draft.DraftForkPath.{DraftForkPath}
 use Rattle.psa_model.specs.declared.draft.DraftInstruction.{DraftInstruction}
 use Rattle.psa_model.specs.declared.draft.DraftReference.{DraftReference}
-use Rattle.psa_drafts.specs.Rows.{row_of_instruction, row_of_end}
-use Rattle.psa_drafts.specs.declared.rows.EndRow.{EndRow}
-use Rattle.psa_drafts.proofs.InstructionSayings as says
+use Rattle.psa_draft_parts.specs.Rows.{row_of_instruction, row_of_end}
+use Rattle.psa_draft_parts.specs.declared.rows.EndRow.{EndRow}
+use Rattle.psa_draft_parts.proofs.InstructionSayings as says
 use Rattle.psa_drafts.proofs.branches.+branch.Goals as goal
 
 pub branch-overflow_add-reader : goal.branch-overflow_add-reader

@@ -2,8 +2,8 @@ use Rattle.std.proofs.Common.{◌≡◌, ◌+◌, take, slice_get, ◌++◌, [],
 use Rattle.std.specs.List.{filter_map}
 use Rattle.psa_elements.specs.DraftReading.{instructions_in, end_of, path_of}
 use Rattle.psa_elements.specs.ElementTable.{instructions, ends, path}
-use Rattle.psa_drafts.specs.Sayings.{sizes_of, readings_among}
-use Rattle.psa_drafts.specs.Starts.{around_of}
+use Rattle.psa_draft_parts.specs.Sayings.{sizes_of, readings_among}
+use Rattle.psa_draft_parts.specs.Starts.{around_of}
 use Rattle.psa_drafts.proofs.branches.+branch.Given as goal
 
 abbrev pub invariant-branch-loop-child : goal.invariant-branch-loop-child

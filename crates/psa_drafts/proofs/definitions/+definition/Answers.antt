@@ -2,21 +2,21 @@ use Rattle.std.proofs.Common.{◌≡◌, ◌+◌, ◌++◌, arith, rules, Some, 
 use Rattle.std.proofs.Common.{subst, take, append-nil}
 use Rattle.psa_elements.specs.DraftReading as reading
 use Rattle.psa_text.specs.declared.tree.Element.TheViews as q
-use Rattle.psa_drafts.specs.Sayings.{reading_among, readings_among, reading_as, start_tag}
-use Rattle.psa_drafts.specs.Starts.{around_of}
-use Rattle.psa_drafts.proofs.Passing.{next-fits, counted-more, several-more}
+use Rattle.psa_draft_parts.specs.Sayings.{reading_among, readings_among, reading_as, start_tag}
+use Rattle.psa_draft_parts.specs.Starts.{around_of}
+use Rattle.psa_draft_parts.proofs.Passing.{next-fits, counted-more, several-more}
 use Rattle.psa_text.specs.declared.tree.Element.{Element}
 use Rattle.psa_model.specs.PathNames.{Text}
 use Rattle.psa_elements.specs.ElementTable.{in_container}
 use Rattle.psa_drafts.proofs.AroundSayings.{inner_of}
-use Rattle.psa_drafts.proofs.Readings.{among-known}
+use Rattle.psa_draft_parts.proofs.Readings.{among-known}
 use Rattle.std.proofs.Common.{ℕ, append_assoc, subst}
 use Rattle.std.proofs.Common.{OnOk}
 use Rattle.psa_elements.specs.DraftReading.{Reading, Surroundings, definitions_in, definitions_of}
 use Rattle.psa_model.specs.declared.draft.DraftDefinition.{DraftDefinition}
-use Rattle.psa_drafts.specs.Rows.{row_of_definition, rows_of, model_data_rows}
-use Rattle.psa_drafts.specs.declared.rows.DefinitionRow.{DefinitionRow}
-use Rattle.psa_drafts.proofs.Passing.{inside-counted, children-readable, readable-at}
+use Rattle.psa_draft_parts.specs.Rows.{row_of_definition, rows_of, model_data_rows}
+use Rattle.psa_draft_parts.specs.declared.rows.DefinitionRow.{DefinitionRow}
+use Rattle.psa_draft_parts.proofs.Passing.{inside-counted, children-readable, readable-at}
 use Rattle.psa_drafts.proofs.DefinitionSayings as says
 use Rattle.psa_drafts.proofs.definitions.+definition.Goals as goal
 

@@ -1,8 +1,8 @@
 use Rattle.std.proofs.Common.{◌≡◌, ◌+◌, take, ◌++◌}
 use Rattle.psa_elements.specs.DraftReading.{definitions_in}
-use Rattle.psa_drafts.specs.Rows.{rows_of}
-use Rattle.psa_drafts.specs.Sayings.{sizes_of, readings_among}
-use Rattle.psa_drafts.specs.Starts.{around_of}
+use Rattle.psa_draft_parts.specs.Rows.{rows_of}
+use Rattle.psa_draft_parts.specs.Sayings.{sizes_of, readings_among}
+use Rattle.psa_draft_parts.specs.Starts.{around_of}
 use Rattle.psa_drafts.proofs.definitions.+definition.Given as goal
 
 abbrev pub invariant-definitions_in-loop-element : goal.invariant-definitions_in-loop-element

@@ -1,16 +1,16 @@
 use Rattle.std.proofs.Common.{◌≡◌, ◌+◌, ◌++◌, arith, List, slice_get, refl, ap, ◌∙◌}
 use Rattle.std.proofs.Common.{subst}
 use Rattle.std.specs.List.{filter_map}
-use Rattle.psa_drafts.specs.Sayings.{inside_among, reading_among}
-use Rattle.psa_drafts.specs.Starts.{around_of}
-use Rattle.psa_drafts.proofs.Passing.{next-fits, child-readable, counted-more, counted-all, first-more, several-more, inside-all}
+use Rattle.psa_draft_parts.specs.Sayings.{inside_among, reading_among}
+use Rattle.psa_draft_parts.specs.Starts.{around_of}
+use Rattle.psa_draft_parts.proofs.Passing.{next-fits, child-readable, counted-more, counted-all, first-more, several-more, inside-all}
 use Rattle.psa_model.specs.PathNames.{Text}
 use Rattle.psa_drafts.proofs.AroundSayings.{inner_of}
 use Rattle.std.proofs.Common.{OnOk}
 use Rattle.psa_elements.specs.DraftReading.{Reading, definitions_in, definitions_of, initial_state_of}
 use Rattle.psa_model.specs.declared.draft.DraftDefinition.{DraftDefinition}
-use Rattle.psa_drafts.specs.Rows.{event_tree_rows}
-use Rattle.psa_drafts.proofs.Passing.{always-ok}
+use Rattle.psa_draft_parts.specs.Rows.{event_tree_rows}
+use Rattle.psa_draft_parts.proofs.Passing.{always-ok}
 use Rattle.psa_drafts.proofs.DefinitionSayings as says
 use Rattle.psa_drafts.proofs.definitions.event_tree.Goals as goal
 

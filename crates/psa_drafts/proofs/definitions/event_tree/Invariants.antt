@@ -1,9 +1,9 @@
 use Rattle.std.proofs.Common.{◌≡◌, ◌+◌, take, slice_get}
 use Rattle.std.specs.List.{filter_map}
 use Rattle.psa_elements.specs.DraftReading.{definitions_in, initial_state_of}
-use Rattle.psa_drafts.specs.Rows.{event_tree_rows}
-use Rattle.psa_drafts.specs.Sayings.{sizes_of, readings_among}
-use Rattle.psa_drafts.specs.Starts.{around_of}
+use Rattle.psa_draft_parts.specs.Rows.{event_tree_rows}
+use Rattle.psa_draft_parts.specs.Sayings.{sizes_of, readings_among}
+use Rattle.psa_draft_parts.specs.Starts.{around_of}
 use Rattle.psa_drafts.proofs.definitions.event_tree.Given as goal
 
 abbrev pub invariant-loop-child : goal.invariant-loop-child

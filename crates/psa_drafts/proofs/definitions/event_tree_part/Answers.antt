@@ -1,15 +1,15 @@
 use Rattle.std.proofs.Common.{◌≡◌, ◌++◌, Option, Some, None, List, [], ◌∷◌, ap, sym, ◌∙◌}
 use Rattle.std.proofs.Common.{subst, append-nil}
 use Rattle.std.specs.Option.{option_or}
-use Rattle.psa_drafts.specs.Starts.{around_of}
-use Rattle.psa_drafts.proofs.Readings.{among-first, among-others, one-row, no-row}
+use Rattle.psa_draft_parts.specs.Starts.{around_of}
+use Rattle.psa_draft_parts.proofs.Readings.{among-first, among-others, one-row, no-row}
 use Rattle.std.proofs.Common.{OnOk}
 use Rattle.psa_elements.specs.ElementTable.{in_event_tree, initial_state}
 use Rattle.psa_elements.specs.DraftReading.{Reading, definitions_of, initial_state_of}
 use Rattle.psa_model.specs.declared.draft.DraftDefinition.{DraftDefinition}
 use Rattle.psa_model.specs.declared.draft.DraftBranch.{DraftBranch}
-use Rattle.psa_drafts.specs.Rows.{row_of_plain}
-use Rattle.psa_drafts.proofs.Passing.{always-ok, or-none}
+use Rattle.psa_draft_parts.specs.Rows.{row_of_plain}
+use Rattle.psa_draft_parts.proofs.Passing.{always-ok, or-none}
 use Rattle.psa_drafts.proofs.DefinitionSayings as says
 use Rattle.psa_drafts.proofs.definitions.event_tree_part.Goals as goal
 

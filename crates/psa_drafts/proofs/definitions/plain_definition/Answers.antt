@@ -1,4 +1,4 @@
-use Rattle.psa_drafts.specs.Starts.{around_of}
+use Rattle.psa_draft_parts.specs.Starts.{around_of}
 use Rattle.psa_drafts.proofs.DefinitionSayings as says
 use Rattle.psa_drafts.proofs.definitions.plain_definition.Goals as goal
 

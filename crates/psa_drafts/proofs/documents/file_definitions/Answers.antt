@@ -1,12 +1,12 @@
 use Rattle.std.proofs.Common.{◌≡◌, ◌++◌, List, ap, sym, ◌∙◌}
 use Rattle.std.proofs.Common.{subst}
 use Rattle.psa_elements.specs.DraftReading as reading
-use Rattle.psa_drafts.specs.Sayings.{readings_among}
+use Rattle.psa_draft_parts.specs.Sayings.{readings_among}
 use Rattle.psa_text.specs.declared.tree.Element.{Element}
 use Rattle.psa_model.specs.PathNames.{Text}
 use Rattle.psa_model.specs.declared.draft.DraftDefinition.{DraftDefinition}
 use Rattle.psa_elements.specs.ElementTable.{in_root}
-use Rattle.psa_drafts.specs.Sayings.{AreReadable}
+use Rattle.psa_draft_parts.specs.Sayings.{AreReadable}
 use Rattle.psa_drafts.proofs.AroundSayings.{file_around}
 use Rattle.std.proofs.Common.{OnOk}
 use Rattle.psa_drafts.proofs.DocumentSayings.{root-readable, says-file}

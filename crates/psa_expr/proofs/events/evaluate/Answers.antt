@@ -1,6 +1,7 @@
 use Rattle.std.proofs.Common.{Err, ap, ◌∙◌, sym}
 use Rattle.psa_model.specs.Values.{values_from}
 use Rattle.psa_model.proofs.HeldValues.{events-held}
+use Rattle.psa_model.proofs.RightDivisions.{events-divide}
 use Rattle.psa_expr.proofs.Valuing.{values-step-at, values-fault-at, values-all, same-fault}
 use Rattle.psa_expr.proofs.events.evaluate.Goals as goal
 
@@ -20,5 +21,11 @@ loop-event-preserved c = (
 pub returns-clause-bracket : goal.returns-clause-bracket
 returns-clause-bracket c = λ terms long.
     events-held terms long c.args.mission c.args.expanded.now.model c.args.expanded.now.events c.loop-event.values
+    (ap (values_from c.args.mission c.args.expanded.now.model) (sym c.as_slice-event-items.ensures)
+    ∙ values-all c.args.mission c.args.expanded.now.model c.as_slice-event-items.result.now c.loop-event.event-index c.loop-event.values c.loop-event-test.false c.loop-event.invariant.1)
+
+pub returns-clause-divisors : goal.returns-clause-divisors
+returns-clause-divisors c = λ terms long.
+    events-divide terms long c.args.mission c.args.expanded.now.model c.args.expanded.now.events c.loop-event.values
     (ap (values_from c.args.mission c.args.expanded.now.model) (sym c.as_slice-event-items.ensures)
     ∙ values-all c.args.mission c.args.expanded.now.model c.as_slice-event-items.result.now c.loop-event.event-index c.loop-event.values c.loop-event-test.false c.loop-event.invariant.1)

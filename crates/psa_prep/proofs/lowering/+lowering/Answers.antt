@@ -6,7 +6,7 @@ use Rattle.psa_model.specs.Parts.{in_gate}
 use Rattle.psa_model.specs.Truth.{within}
 use Rattle.psa_model.proofs.Levels.{some-level, arguments-within, gate-within, gate-stands, basic-stands, house-stands}
 use Rattle.psa_prep.specs.Lowering.{houses_of}
-use Rattle.psa_prep.proofs.ConnectiveLemmas.{get-is}
+use Rattle.std.proofs.lemmas.Option.{slice_get-get_or}
 use Rattle.psa_prep.proofs.ListLemmas.{all-at, at-place, some-none}
 use Rattle.psa_prep.proofs.LoweringLemmas.{makes-as, makes-house, makes-constant, meets-as, gate-known, gate-made, argument-meets, some-start, some-more, some-end, operands-made, connective-made}
 use Rattle.psa_prep.proofs.PlaceLemmas.{if-ok}
@@ -132,7 +132,7 @@ lower_all-loop-place-init t c = some-start c.args.context.now c.args.operator c.
 
 pub lower_all-lower-requires : goal.lower_all-lower-requires
 lower_all-lower-requires t c =
-    let found : slice_get c.args.arguments.now c.loop-place.place ≡ Some c.index-arguments-place.result = get-is c.args.arguments.now c.loop-place.place c.index-arguments-place.result c.loop-place-test.true ∙ ap Some (sym c.index-arguments-place.is) in (
+    let found : slice_get c.args.arguments.now c.loop-place.place ≡ Some c.index-arguments-place.result = slice_get-get_or c.args.arguments.now c.loop-place.place c.index-arguments-place.result c.loop-place-test.true ∙ ap Some (sym c.index-arguments-place.is) in (
       omega arith,
       (
         all-at (λ g. within c.args.depth c.args.context.now.expanded.now.model g) c.args.arguments.now c.loop-place.place c.index-arguments-place.result c.requires.within c.loop-place-test.true c.index-arguments-place.is,
@@ -145,7 +145,7 @@ lower_all-lower-requires t c =
 
 pub lower_all-loop-place-preserved : goal.lower_all-loop-place-preserved
 lower_all-loop-place-preserved t c =
-    let found : slice_get c.args.arguments.now c.loop-place.place ≡ Some c.index-arguments-place.result = get-is c.args.arguments.now c.loop-place.place c.index-arguments-place.result c.loop-place-test.true ∙ ap Some (sym c.index-arguments-place.is) in
+    let found : slice_get c.args.arguments.now c.loop-place.place ≡ Some c.index-arguments-place.result = slice_get-get_or c.args.arguments.now c.loop-place.place c.index-arguments-place.result c.loop-place-test.true ∙ ap Some (sym c.index-arguments-place.is) in
     some-more c.args.context.now c.args.operator c.args.arguments.now c.args.signs c.asked_of-asked.result c.loop-place.place c.index-arguments-place.result c.args.builder.now c.loop-place.builder c.lower.new.builder c.loop-place.pairs.items c.push.new.self.items c.in_ok-pair.pair
     found c.asked_of-asked.ensures c.in_ok-push.ensures.items c.loop-place.invariant c.in_ok-pair.ensures
 

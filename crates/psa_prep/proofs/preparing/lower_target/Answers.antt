@@ -1,4 +1,5 @@
-use Rattle.psa_prep.proofs.TargetLemmas.{started-blank, top-stands, paths-stand}
+use Rattle.psa_prep.proofs.TargetLemmas.{started-blank, paths-stand}
+use Rattle.psa_prep.proofs.WalkLemmas.{top-stands}
 use Rattle.psa_prep.proofs.preparing.lower_target.Goals as goal
 
 pub lower_top-requires-clause-stands : goal.lower_top-requires-clause-stands

@@ -1,9 +1,9 @@
-use Rattle.std.proofs.Common.{◌++◌, ap, flat_map, refl}
+use Rattle.std.proofs.Common.{◌++◌, flat_map, refl}
 use Rattle.psa_number.specs.Operations.{complement_ends}
 use Rattle.psa_model.specs.Report.{target_line, totals_text}
-use Rattle.psa_products.specs.Sums.{Sums}
 use Rattle.psa_report.proofs.WrittenLemmas.{left-of, left-stop, left-next, left-last, written-as}
 use Rattle.psa_sections.specs.Writing.{line_by, totals_by}
+use Rattle.psa_sections.proofs.SectionLemmas.{text-asked}
 use Rattle.psa_sections.proofs.section.write_kept.Goals as goal
 
 pub returns-in_err-write_target : goal.returns-in_err-write_target
@@ -55,5 +55,5 @@ returns g c = λ keeps answers.
           c.write_target.ensures c.in_ok-write_target.was)
           c.write_listed.ensures.lines c.in_ok-write_listed.was)
           (written-as _ _ _ _ _ _ c.write_totals.result c.write_totals.ensures
-          (ap (λ (s : Sums). totals_text subject.settings.now s.count s.rare_event (complement_ends s.rest)) c.in_ok-write_listed.ensures.totals)),
+          (text-asked subject.settings.now _ _ c.in_ok-write_listed.ensures.totals)),
     )

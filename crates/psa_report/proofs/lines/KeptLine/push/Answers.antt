@@ -1,5 +1,5 @@
 use Rattle.std.proofs.Common.{◌∙◌, sym}
-use Rattle.psa_report.specs.Lines.{Naming, IsExact}
+use Rattle.psa_report.specs.Lines.{Naming}
 use Rattle.psa_report.proofs.LineLemmas.{exact-written, kept-exact}
 use Rattle.psa_report.proofs.lines.KeptLine.push.Goals as goal
 

@@ -1,5 +1,0 @@
-use Rattle.psa_assembly.proofs.CountedMembers.{FirstMembers}
-use Rattle.psa_assembly.proofs.numbering.number_members.Given as goal
-
-abbrev pub invariant-loop : goal.invariant-loop
-invariant-loop l = FirstMembers l.counter l.initial.members l.initial.of_groups l.initial.counts l.of_groups l.counts l.members

@@ -1,0 +1,6 @@
+use Rattle.psa_draft_parts.specs.Rows.{model_data_rows}
+use Rattle.psa_draft_parts.proofs.Readings.{none-of}
+use Rattle.psa_draft_parts.proofs.rows.model_data_row.Goals as goal
+
+pub returns-in_default : goal.returns-in_default
+returns-in_default c = none-of c.args.tag.now model_data_rows (assumption c.in_default)

@@ -1,6 +1,0 @@
-use Rattle.psa_elements.specs.ElementTable.{expressions}
-use Rattle.psa_drafts.proofs.Readings.{none-of}
-use Rattle.psa_drafts.proofs.rows.expression_row.Goals as goal
-
-pub returns-in_default : goal.returns-in_default
-returns-in_default c = none-of c.args.tag.now expressions (assumption c.in_default)

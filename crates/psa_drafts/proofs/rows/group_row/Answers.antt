@@ -1,6 +1,0 @@
-use Rattle.psa_drafts.specs.Rows.{group_rows}
-use Rattle.psa_drafts.proofs.Readings.{none-of}
-use Rattle.psa_drafts.proofs.rows.group_row.Goals as goal
-
-pub returns-in_default : goal.returns-in_default
-returns-in_default c = none-of c.args.tag.now group_rows (assumption c.in_default)

@@ -1,0 +1,9 @@
+use Rattle.std.proofs.Common.{length}
+use Rattle.psa_text.specs.scanner.Spans.{IsBehind, is_plain}
+use Rattle.psa_text.proofs.scanner.spans.behind_plain_bytes.Given as goal
+
+abbrev pub invariant-loop-bytes : goal.invariant-loop-bytes
+invariant-loop-bytes l = IsBehind (is_plain l.fn.quote) l.fn.bytes l.bytes
+
+abbrev pub decreases-loop-bytes : goal.decreases-loop-bytes
+decreases-loop-bytes l = length l.bytes
