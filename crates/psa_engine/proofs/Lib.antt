@@ -3,3 +3,4 @@ pub mod LimitLemmas
 pub mod CompletenessLemmas
 pub mod SettingsLimits
 pub mod FewTargets
+pub mod EndRows

@@ -21,7 +21,8 @@ use Rattle.psa_shares.specs.declared.text.TextError.{TextError}
 use Rattle.psa_shares.specs.declared.text.TextError.TheVariants.{Write, Memory}
 use Rattle.psa_shares.specs.Shares.{IsSharesSection, WritesShares}
 use Rattle.psa_shares.specs.ShareText.{IsSharesText, no_shares, and_shares}
-use Rattle.psa_shares.specs.TextEnds.{EndsText, HasShares, HasText, WritesTarget, end_by}
+use Rattle.psa_engine.specs.TextEnds.{EndsText, HasText}
+use Rattle.psa_shares.specs.SectionEnds.{HasShares, WritesTarget, end_by}
 
 -- ---- the table
 

@@ -1,4 +1,5 @@
 pub mod Shares
 pub mod Subjects
 pub mod ShareText
-pub mod TextEnds
+pub mod SectionEnds
+pub mod EventShares

@@ -4,6 +4,7 @@
 
 mod run;
 mod section;
+mod share;
 mod text;
 
 pub use run::share_words;

@@ -9,7 +9,7 @@ ghost use Rattle.psa_outcome.specs.RunOutcome.{Completeness, GrewBy, IsRefusal, 
 ghost use Rattle.psa_outcome.specs.Runs.{run_of};
 ghost use Rattle.psa_words.specs.Answer.{Answers};
 ghost use Rattle.psa_shares.specs.ShareText.{IsSharesText, is_refused as is_refused_by, refused_shares_text, shares_settings_of};
-ghost use Rattle.psa_shares.specs.TextEnds.{EndsRun};
+ghost use Rattle.psa_engine.specs.TextEnds.{EndsRun};
 
 use crate::text::{end_of, write_text};
 use psa_engine::{End, WordsError, load, pass_on, read_words, refuse, refuse_model, tell};

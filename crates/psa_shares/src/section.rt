@@ -1,11 +1,10 @@
-ghost use Rattle.std.specs.Prelude.{◌≡◌, ◌<◌, ◌≤◌, ◌^◌, ◌++◌, ◌&&◌, ℕ, List, Bool, true, Some, IfSome, codes, decimal, min, length};
+ghost use Rattle.std.specs.Prelude.{◌≡◌, ◌<◌, ◌≤◌, ◌++◌, ℕ, Bool, true, List, [], Some, IfSome, codes, length};
 ghost use Rattle.std.specs.List.{All, filter, slice_get};
 ghost use Rattle.psa_logic.specs.Products.{IsListing};
 ghost use Rattle.psa_model.specs.declared.targets.Target.{Target as TargetValue};
 ghost use Rattle.psa_model.specs.Literals.{literals_of};
-ghost use Rattle.psa_model.specs.declared.product.TheConstants.{MAX_COUNT};
 ghost use Rattle.psa_model.specs.Names.{ranked_text};
-ghost use Rattle.psa_model.specs.Report.{IsProductOf, ends_text, is_kept_in};
+ghost use Rattle.psa_model.specs.Report.{IsProductOf, is_kept_in};
 ghost use Rattle.psa_nodes.specs.Readings.{has};
 ghost use Rattle.psa_number.specs.Operations.{IsInUnit};
 ghost use Rattle.psa_outcome.specs.Loading.{IsLoaded, loaded_analysis};
@@ -14,17 +13,19 @@ ghost use Rattle.psa_products.specs.Rules.{IsRuled};
 ghost use Rattle.psa_report.specs.Pieces.{Writes};
 ghost use Rattle.psa_sections.specs.ProductNodes.{IsNodeOfProducts};
 ghost use Rattle.psa_sections.specs.Writing.{bound_by, reaches as least_is_reached, totals_by};
-ghost use Rattle.psa_shares.specs.Shares.{WritesShares, holding, holds_event, share_in, share_lines, sum_text};
-ghost use Rattle.psa_shares.specs.Subjects.{IsSubject};
+ghost use Rattle.psa_shares.specs.EventShares.{AreShares, HasPlaces, share_of};
+ghost use Rattle.psa_shares.specs.Shares.{WritesShares, holding, share_in, share_lines, sum_text};
+ghost use Rattle.psa_shares.specs.Subjects.{IsSubject, IsSummed};
 
+use crate::share::{Share, take_product};
 use itoa::Buffer;
-use psa_model::{MAX_COUNT, MAX_ORDER, Product, Ranks, Target};
+use psa_model::{MAX_COUNT, MAX_EVENTS, MAX_ORDER, Product, Ranks, Target};
 use psa_nodes::{NodeId, NodeTable, Steps};
 use psa_outcome::Loaded;
 use psa_ports::Sink;
-use psa_products::{Lister, Rule, Totals};
+use psa_products::{Bounds, Lister, Rule, Totals};
 use psa_report::{WriteFault, put_all, put_interval, put_ranked, write_target, write_totals};
-use psa_sections::{counted_bound, least_end, product_bound, reaches};
+use psa_sections::{counted_bound, least_end, reaches};
 use std::marker::Brand;
 use std::sync::ledger::{Blank, Ledger};
 
@@ -38,48 +39,55 @@ pub struct Subject<'a> {
     root: NodeId,
 }
 
-/// Whether a product holds the event with a rank, with either sign.
-fn holds(product: &Product, rank: u32) -> bool
-    ensures { result ≡ holds_event rank (literals_of product.now.items) }
-{
-    for literal in product.as_slice() {
-        if literal.rank == rank {
-            return true;
-        }
-    }
-    false
-}
-
-/// The totals of the products that a lister still gives.
+/// Takes the products that a lister still gives into the shares of their events, and gives the totals of all.
 fn sum_listed<R: Rule, L: Ledger>(
     subject: &Subject<'_>,
     lister: &mut Lister<'_, R>,
+    shares: &mut [Share],
     steps: &mut Steps<L>,
 ) -> Totals
-    requires { IfSome subject.now.loaded.now.values (All IsInUnit) }
-    ensures { result ≡ totals_by subject.now.loaded.now.values subject.now.ranks.now lister.old.rest }
+    requires values { IfSome subject.now.loaded.now.values (All IsInUnit) }
+    requires places { All (HasPlaces (length shares.old)) lister.old.rest }
+    requires none { AreShares subject.now.loaded.now.values subject.now.ranks.now [] shares.old }
+    ensures totals { result
+        ≡ totals_by subject.now.loaded.now.values subject.now.ranks.now lister.old.rest }
+    ensures shares { AreShares subject.now.loaded.now.values subject.now.ranks.now
+        lister.old.rest shares.new }
+    ensures count { length shares.new ≡ length shares.old }
 {
     let mut totals = Totals::new();
+    let mut bounds = Bounds::new(&subject.loaded.values, subject.ranks);
     while lister.advance(steps) {
         let product = lister.product();
-        let bound = product_bound(&subject.loaded.values, subject.ranks, product);
-        totals.take(counted_bound(&bound));
+        let bound = counted_bound(&bounds.bound(product));
+        take_product(shares, product.as_slice(), bound);
+        totals.take(bound);
     }
     totals
 }
 
-/// The totals of the products that a rule keeps.
-fn totals_of<R: Rule, L: Ledger>(subject: &Subject<'_>, rule: R, steps: &mut Steps<L>) -> Totals
+/// Takes the products that a rule keeps into the shares of their events, and gives the totals of all. It walks once
+/// through them.
+fn sum_ruled<R: Rule, L: Ledger>(
+    subject: &Subject<'_>,
+    rule: R,
+    shares: &mut [Share],
+    steps: &mut Steps<L>,
+) -> Totals
     requires subject { IsSubject subject.now }
     requires rule { (set : List ℕ) → has subject.now.table.now.nodes subject.now.root.0 set ≡ true
         → IsRuled (λ one. R.may rule (product_of one)) (λ one. R.says rule (product_of one)) set }
-    ensures { (keeps : List ℕ → Bool)
+    requires places { (set : List ℕ) → has subject.now.table.now.nodes subject.now.root.0 set ≡ true
+        → HasPlaces (length shares.old) set }
+    requires none { AreShares subject.now.loaded.now.values subject.now.ranks.now [] shares.old }
+    ensures sums { (keeps : List ℕ → Bool)
         → ((set : List ℕ) → has subject.now.table.now.nodes subject.now.root.0 set ≡ true
         → R.says rule (product_of set) (keeps set))
         → (kept : List (List ℕ))
         × IsListing (λ set. (has subject.now.table.now.nodes subject.now.root.0 set ≡ true)
         × (keeps set ≡ true)) kept
-        × (result ≡ totals_by subject.now.loaded.now.values subject.now.ranks.now kept) }
+        × IsSummed subject.now kept result shares.new }
+    ensures count { length shares.new ≡ length shares.old }
 {
     let mut lister = Lister::new(
         subject.table,
@@ -87,37 +95,19 @@ fn totals_of<R: Rule, L: Ledger>(subject: &Subject<'_>, rule: R, steps: &mut Ste
         subject.loaded.settings.limit_order,
         rule,
     );
-    sum_listed(subject, &mut lister, steps)
+    sum_listed(subject, &mut lister, shares, steps)
 }
 
-/// The totals of the kept products that hold the event with a rank.
-fn share<L: Ledger>(subject: &Subject<'_>, rank: u32, steps: &mut Steps<L>) -> Totals
-    requires { IsSubject subject.now }
-    ensures { (products : List (List ℕ))
+/// Takes the kept products into the shares of their events, and gives the totals of all.
+fn sum_kept<L: Ledger>(subject: &Subject<'_>, shares: &mut [Share], steps: &mut Steps<L>) -> Totals
+    requires subject { IsSubject subject.now }
+    requires room { length subject.now.ranks.now ≤ length shares.old }
+    requires none { AreShares subject.now.loaded.now.values subject.now.ranks.now [] shares.old }
+    ensures sums { (products : List (List ℕ))
         → IsListing (IsProductOf (loaded_analysis subject.now.loaded.now) subject.now.target.now) products
-        → result ≡ totals_by subject.now.loaded.now.values subject.now.ranks.now
-        (holding rank (filter (is_kept_in (loaded_analysis subject.now.loaded.now)
-        subject.now.target.now) products)) }
-{
-    let least = least_end(&subject.loaded.settings);
-    let values = &subject.loaded.values;
-    let ranks = subject.ranks;
-    let holding = |product: &Product| -> bool
-        requires { IfSome values.now (All IsInUnit) }
-        ensures { result ≡ (holds_event rank (literals_of product.entry.now.items)
-            && least_is_reached least
-            (bound_by values.entry.now ranks.entry.now (literals_of product.entry.now.items))) }
-    { holds(product, rank) && reaches(least, values, ranks, product) };
-    totals_of(subject, holding, steps)
-}
-
-/// The totals of the kept products.
-fn kept_totals<L: Ledger>(subject: &Subject<'_>, steps: &mut Steps<L>) -> Totals
-    requires { IsSubject subject.now }
-    ensures { (products : List (List ℕ))
-        → IsListing (IsProductOf (loaded_analysis subject.now.loaded.now) subject.now.target.now) products
-        → result ≡ totals_by subject.now.loaded.now.values subject.now.ranks.now
-        (filter (is_kept_in (loaded_analysis subject.now.loaded.now) subject.now.target.now) products) }
+        → IsSummed subject.now (filter (is_kept_in (loaded_analysis subject.now.loaded.now)
+        subject.now.target.now) products) result shares.new }
+    ensures count { length shares.new ≡ length shares.old }
 {
     let least = least_end(&subject.loaded.settings);
     let values = &subject.loaded.values;
@@ -127,30 +117,30 @@ fn kept_totals<L: Ledger>(subject: &Subject<'_>, steps: &mut Steps<L>) -> Totals
         ensures { result ≡ least_is_reached least
             (bound_by values.entry.now ranks.entry.now (literals_of product.entry.now.items)) }
     { reaches(least, values, ranks, product) };
-    totals_of(subject, kept, steps)
+    sum_ruled(subject, kept, shares, steps)
 }
 
-/// Writes the number of the products of some totals and their sum.
-fn write_sum<S: Sink>(out: &mut S, totals: &Totals) -> Result<(), WriteFault>
+/// Writes the number of the products of a share and their sum.
+fn write_sum<S: Sink>(out: &mut S, share: &Share) -> Result<(), WriteFault>
     ensures { Writes (S.written out.old) (S.written out.new) (S.faults out.old) (S.faults out.new)
-        (sum_text totals.now.count totals.now.rare_event) result }
+        (sum_text share.now.count share.now.sum) result }
 {
     let mut count = Buffer::new();
-    put_all(out, &[" ", count.format(totals.count.min(MAX_COUNT)), " "])?;
-    put_interval(out, totals.rare_event)?;
+    put_all(out, &[" ", count.format(share.count.min(MAX_COUNT)), " "])?;
+    put_interval(out, share.sum)?;
     put_all(out, &["\n"])
 }
 
-/// Writes the line of the event with a rank over the totals of the products that hold it.
+/// Writes the line of the event with a rank, which has this share.
 fn write_line<S: Sink>(
     out: &mut S,
     subject: &Subject<'_>,
     rank: u32,
-    totals: &Totals,
+    share: &Share,
 ) -> Result<(), WriteFault>
     ensures { Writes (S.written out.old) (S.written out.new) (S.faults out.old) (S.faults out.new)
         (codes "event " ++ (ranked_text subject.now.loaded.now.expanded subject.now.ranks.now rank
-        ++ sum_text totals.now.count totals.now.rare_event)) result }
+        ++ sum_text share.now.count share.now.sum)) result }
 {
     put_all(out, &["event "])?;
     put_ranked(
@@ -159,48 +149,44 @@ fn write_line<S: Sink>(
         subject.ranks.as_slice(),
         rank,
     )?;
-    write_sum(out, totals)
+    write_sum(out, share)
 }
 
 /// Writes the line of the event with a rank, or nothing where no kept product holds it.
-fn write_event<S: Sink, L: Ledger>(
+fn write_event<S: Sink>(
     out: &mut S,
     subject: &Subject<'_>,
     rank: u32,
-    steps: &mut Steps<L>,
+    share: &Share,
 ) -> Result<(), WriteFault>
     requires { IsSubject subject.now }
-    ensures { (products : List (List ℕ))
-        → IsListing (IsProductOf (loaded_analysis subject.now.loaded.now) subject.now.target.now) products
+    ensures { (kept : List (List ℕ))
+        → share.now ≡ share_of subject.now.loaded.now.values subject.now.ranks.now (holding rank kept)
         → Writes (S.written out.old) (S.written out.new) (S.faults out.old) (S.faults out.new)
-        (share_in (loaded_analysis subject.now.loaded.now) subject.now.target.now
-        (filter (is_kept_in (loaded_analysis subject.now.loaded.now) subject.now.target.now) products)
-        rank) result }
+        (share_in (loaded_analysis subject.now.loaded.now) subject.now.target.now kept rank) result }
 {
-    let totals = share(subject, rank, steps);
-    if totals.count == 0 {
+    if share.count == 0 {
         return put_all(out, &[]);
     }
-    write_line(out, subject, rank, &totals)
+    write_line(out, subject, rank, share)
 }
 
 /// Writes the lines of all events, by rank.
-fn write_events<S: Sink, L: Ledger>(
+fn write_events<S: Sink>(
     out: &mut S,
     subject: &Subject<'_>,
-    steps: &mut Steps<L>,
+    shares: &[Share],
 ) -> Result<(), WriteFault>
     requires subject { IsSubject subject.now }
-    requires few { length subject.now.ranks.now < 2 ^ 32 }
-    ensures { (products : List (List ℕ))
-        → IsListing (IsProductOf (loaded_analysis subject.now.loaded.now) subject.now.target.now) products
+    requires few { length subject.now.ranks.now ≤ MAX_EVENTS }
+    requires room { length subject.now.ranks.now ≤ length shares.now }
+    ensures { (kept : List (List ℕ))
+        → AreShares subject.now.loaded.now.values subject.now.ranks.now kept shares.now
         → Writes (S.written out.old) (S.written out.new) (S.faults out.old) (S.faults out.new)
-        (share_lines (loaded_analysis subject.now.loaded.now) subject.now.target.now
-        (filter (is_kept_in (loaded_analysis subject.now.loaded.now) subject.now.target.now) products))
-        result }
+        (share_lines (loaded_analysis subject.now.loaded.now) subject.now.target.now kept) result }
 {
     for rank in 0..subject.ranks.len() {
-        write_event(out, subject, rank as u32, steps)?;
+        write_event(out, subject, rank as u32, &shares[rank])?;
     }
     Ok(())
 }
@@ -215,14 +201,15 @@ fn write_section<S: Sink, L: Ledger>(
     requires parts { blank.parts ≡ L.parts }
     requires some { 0 < blank.parts }
     requires subject { IsSubject subject.now }
-    requires few { length subject.now.ranks.now < 2 ^ 32 }
+    requires few { length subject.now.ranks.now ≤ MAX_EVENTS }
     ensures { WritesShares (loaded_analysis subject.now.loaded.now) subject.now.target.now
         (S.written out.old) (S.written out.new) (S.faults out.old) (S.faults out.new) result }
 {
     let mut steps = Steps::<L>::begin(blank);
+    let mut shares = [Share::new(); MAX_EVENTS];
     write_target(out, &subject.loaded.expanded.model, subject.target)?;
-    write_events(out, subject, &mut steps)?;
-    let totals = kept_totals(subject, &mut steps);
+    let totals = sum_kept(subject, &mut shares, &mut steps);
+    write_events(out, subject, &shares)?;
     write_totals(out, &subject.loaded.settings, &totals)
 }
 

@@ -6,7 +6,8 @@ ghost use Rattle.psa_outcome.specs.Loading.{IsLoaded, loaded_analysis};
 ghost use Rattle.psa_outcome.specs.Runs.{WroteFirst};
 ghost use Rattle.psa_prep.specs.Index.{IsIndex};
 ghost use Rattle.psa_shares.specs.ShareText.{IsSharesText};
-ghost use Rattle.psa_shares.specs.TextEnds.{EndsText, WritesTarget, end_by};
+ghost use Rattle.psa_engine.specs.TextEnds.{EndsText};
+ghost use Rattle.psa_shares.specs.SectionEnds.{WritesTarget, end_by};
 
 use crate::section::write_shares;
 use psa_engine::End;

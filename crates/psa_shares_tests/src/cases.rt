@@ -1,5 +1,5 @@
 use crate::lines::put;
-use crate::runs::found;
+use crate::runs::{Devices, found};
 use crate::texts::put_text;
 use std::alloc::Global;
 
@@ -13,9 +13,9 @@ pub fn put_if_wrong(wrong: &mut String, wanted: &str, found: &str) {
 }
 
 /// Appends what a run over these files leaves, where it is not what stands behind its words.
-fn put_wrong_run(wrong: &mut String, alloc: Global, files: &str, run: &str) {
+fn put_wrong_run(wrong: &mut String, alloc: Global, files: &str, run: &str, devices: &Devices) {
     let (words, _) = run.split_once(" => ").unwrap_or((run, ""));
-    let found = found(alloc, words, files);
+    let found = found(alloc, words, files, devices);
     let mut wanted = String::new(alloc);
     put_text(&mut wanted, run);
     put(&mut wanted, "\n");
@@ -26,18 +26,18 @@ fn put_wrong_run(wrong: &mut String, alloc: Global, files: &str, run: &str) {
 ///
 /// - `# WORDS`: what it shows;
 /// - for each file `@ NAME TEXT`, or `@ NAME` and the lines of its text below, each with its end;
-/// - for each run over these files `$ WORDS => STATUS`, then `! ` and what it tells on standard error, if anything, and
-///   then its report.
+/// - for each run over these files `$ WORDS => STATUS`, with `, no file opened` where that is so, then `! ` and what it
+///   tells on standard error, if anything, and then its text.
 ///
 /// Texts and what is wanted stand in the notation of `put_text`. A case without a run is wrong.
-pub fn wrong_cases(alloc: Global, cases: &str) -> String {
+pub fn wrong_cases(alloc: Global, cases: &str, devices: &Devices) -> String {
     let mut wrong = String::new(alloc);
     for case in cases.split("\n\n") {
         match case.split_once("\n$ ") {
             Some((head, runs)) => {
                 let (_, files) = head.split_once("\n@ ").unwrap_or((head, ""));
                 for run in runs.split("\n$ ") {
-                    put_wrong_run(&mut wrong, alloc, files, run);
+                    put_wrong_run(&mut wrong, alloc, files, run, devices);
                 }
             }
             None => put(&mut wrong, case),

@@ -4,6 +4,8 @@
 #[cfg(test)]
 mod cases;
 #[cfg(test)]
+mod devices;
+#[cfg(test)]
 mod lines;
 #[cfg(test)]
 mod models;

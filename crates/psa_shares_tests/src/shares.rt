@@ -1,21 +1,11 @@
 //! Runs of shares.
 
-/// Events of both signs, of subsets, of components, and left out; refused words.
+/// Events of both signs, of subsets, of components, and left out; refused words and a refused model.
 #[rattlefmt::skip]
 pub const SHARES: &str = r#"
 # two trains; a cutoff that leaves out all products of an event; words that are refused
 @ two.xml
-<opsa-mef>
-<define-fault-tree name="TwoTrains">
-<define-gate name="TopEvent"><and><gate name="TrainOne"/><gate name="TrainTwo"/></and></define-gate>
-<define-gate name="TrainOne"><or><basic-event name="PumpOne"/><basic-event name="ValveOne"/></or></define-gate>
-<define-gate name="TrainTwo"><or><basic-event name="PumpTwo"/><basic-event name="ValveTwo"/></or></define-gate>
-<define-basic-event name="PumpOne"><float value="0.02"/></define-basic-event>
-<define-basic-event name="ValveOne"><float value="0.01"/></define-basic-event>
-<define-basic-event name="PumpTwo"><float value="0.02"/></define-basic-event>
-<define-basic-event name="ValveTwo"><float value="0.01"/></define-basic-event>
-</define-fault-tree>
-</opsa-mef>
+{two}
 $ two.xml => Done
 {head minimal-cut-sets ... 0.000000000000}
 top-event TwoTrains TopEvent
@@ -32,26 +22,41 @@ event PumpOne 1 0.000400000000 0.000400000000
 event PumpTwo 1 0.000400000000 0.000400000000
 count 1
 rare-event 0.000400000000 0.000400000000
-$ --mcub two.xml => BadWords
+$ --mcub two.xml => BadWords, no file opened
 ! scram: bad words
 usage: scram_shares [options] FILE...
-$ --validate two.xml => BadWords
+$ --validate two.xml => BadWords, no file opened
 ! scram: bad words
 usage: scram_shares [options] FILE...
-$ --node-limit 9 two.xml => BadWords
+$ --node-limit 9 two.xml => BadWords, no file opened
 ! scram: bad words
 usage: scram_shares [options] FILE...
 $ one.xml => ReadFault
 ! scram: cannot read one.xml
 
-# the sample
-$ --sample 3 => Done
+# the sample opens nothing
+$ --sample 3 => Done, no file opened
 {head minimal-cut-sets ... 0.000000000000}
 top-event sample top
 {3 event a# 4 0.000002400000 0.000002400000
 event b# 4 0.000000480000 0.000000480000
 }count 12
 rare-event 0.000004320000 0.000004320000
+
+# no words
+$  => BadWords, no file opened
+! scram: bad words
+usage: scram_shares [options] FILE...
+
+# a gate that nothing defines
+@ one.xml
+<opsa-mef>
+<define-fault-tree name="F">
+<define-gate name="G1"><or><gate name="G2"/><basic-event name="a"/></or></define-gate>
+</define-fault-tree>
+</opsa-mef>
+$ one.xml => BadModel
+! scram: one.xml:3: undefined G2
 
 # an event that occurs in one prime implicant and not in another
 @ m.xml

@@ -3,7 +3,7 @@ use Rattle.psa_outcome.specs.Loading.{loaded_analysis}
 use Rattle.psa_outcome.specs.Runs.{run_of}
 use Rattle.psa_engine.proofs.CompletenessLemmas.{bad-complete, read-complete}
 use Rattle.psa_shares.specs.ShareText.{IsSharesText}
-use Rattle.psa_shares.proofs.EndRows.{bad-row, loaded-complete, loaded-row, not-nothing, unread-row}
+use Rattle.psa_engine.proofs.EndRows.{bad-row, loaded-complete, loaded-row, not-nothing, unread-row}
 use Rattle.psa_shares.proofs.run.run.Goals as goal
 
 pub returns-in-Ok-clause-outcome : goal.returns-in-Ok-clause-outcome

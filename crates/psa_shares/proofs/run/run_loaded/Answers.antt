@@ -3,8 +3,8 @@ use Rattle.psa_outcome.specs.Loading.{loaded_analysis}
 use Rattle.psa_engine.specs.declared.end.End.{End}
 use Rattle.psa_engine.proofs.FewTargets.{few-loaded-events, few-targets}
 use Rattle.psa_shares.specs.ShareText.{IsSharesText}
-use Rattle.psa_shares.specs.TextEnds.{EndsText, begun, unbegun}
-use Rattle.psa_shares.proofs.EndRows.{passed-on}
+use Rattle.psa_engine.specs.TextEnds.{EndsText, begun, unbegun}
+use Rattle.psa_engine.proofs.EndRows.{passed-on}
 use Rattle.psa_shares.proofs.run.run_loaded.Goals as goal
 
 pub of-requires : goal.of-requires

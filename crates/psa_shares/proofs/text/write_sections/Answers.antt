@@ -5,7 +5,8 @@ use Rattle.psa_sections.proofs.LoadedLemmas.{count-all, target-at}
 use Rattle.psa_sections.proofs.TargetLemmas.{turned}
 use Rattle.psa_shares.specs.declared.text.TextError.{TextError}
 use Rattle.psa_shares.specs.ShareText.{IsSharesText}
-use Rattle.psa_shares.specs.TextEnds.{EndsText, end_by}
+use Rattle.psa_engine.specs.TextEnds.{EndsText}
+use Rattle.psa_shares.specs.SectionEnds.{end_by}
 use Rattle.psa_shares.proofs.TextLemmas.{all-sections, no-shares, one-more-section, stops}
 use Rattle.psa_shares.proofs.text.write_sections.Goals as goal
 

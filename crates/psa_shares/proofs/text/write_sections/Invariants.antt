@@ -1,6 +1,6 @@
 use Rattle.psa_nodes.specs.Nodes.{IsBounded}
 use Rattle.psa_outcome.specs.Loading.{loaded_analysis}
-use Rattle.psa_shares.specs.TextEnds.{HasShares}
+use Rattle.psa_shares.specs.SectionEnds.{HasShares}
 use Rattle.psa_shares.proofs.text.write_sections.Given as goal
 
 -- the targets before the place have their sections

@@ -5,7 +5,7 @@ use Rattle.psa_sections.specs.ProductNodes.{IsNodeOfProducts}
 use Rattle.psa_sections.proofs.LoadedLemmas.{few-at, read-at, target-stands}
 use Rattle.psa_sections.proofs.TargetLemmas.{turned}
 use Rattle.psa_shares.specs.declared.text.TextError.TheVariants.{Memory, Write}
-use Rattle.psa_shares.specs.TextEnds.{WritesTarget}
+use Rattle.psa_shares.specs.SectionEnds.{WritesTarget}
 use Rattle.psa_shares.proofs.ShareLemmas.{ranks-of-target}
 use Rattle.psa_shares.proofs.TextLemmas.{section-unwritten, section-written, unmade}
 use Rattle.psa_shares.proofs.text.write_target.Goals as goal

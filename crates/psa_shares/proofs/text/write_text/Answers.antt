@@ -5,8 +5,9 @@ use Rattle.psa_sections.proofs.TargetLemmas.{turned}
 use Rattle.psa_shares.specs.declared.text.TextError.{TextError}
 use Rattle.psa_shares.specs.declared.text.TextError.TheVariants.{Write}
 use Rattle.psa_shares.specs.ShareText.{IsSharesText}
-use Rattle.psa_shares.specs.TextEnds.{EndsText, end_by}
-use Rattle.psa_shares.proofs.EndRows.{sooner-end}
+use Rattle.psa_engine.specs.TextEnds.{EndsText}
+use Rattle.psa_shares.specs.SectionEnds.{end_by}
+use Rattle.psa_engine.proofs.EndRows.{sooner-end}
 use Rattle.psa_shares.proofs.TextLemmas.{head-first, head-part, new-bounded}
 use Rattle.psa_shares.proofs.text.write_text.Goals as goal
 

@@ -29,7 +29,7 @@ use Rattle.psa_engine.specs.declared.end.End.{End}
 use Rattle.psa_engine.specs.declared.end.End.TheVariants.{Done, Bad, Read, Write, Full, Memory}
 use Rattle.psa_engine.specs.Ends.{IsRefusedModel, PassesOn, line_of, status_of}
 use Rattle.psa_engine.proofs.EndLemmas.{read-row}
-use Rattle.psa_shares.specs.TextEnds.{EndsRun, unbegun, begun, EndsText, HasText}
+use Rattle.psa_engine.specs.TextEnds.{EndsRun, unbegun, begun, EndsText, HasText}
 
 -- ---- what is passed on at the end
 
